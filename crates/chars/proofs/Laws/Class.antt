@@ -1,0 +1,112 @@
+-- The byte classes: two tests agree on a range of bytes where a computed test says so, and which class lies in which.
+-- Assumes nothing.
+use mathlib.Core.Path.{_≡_, refl, subst, subst⁻¹}
+use mathlib.Core.Bool.{Bool, true, false, _&&_, _||_, not, Bool·beq}
+use mathlib.Core.Logic.{⊎-elim}
+use Prim.Native.Nat.{ℕ, zero, suc, _+_, _≤_, _<_, zero-le}
+use native.Mathlib.Nat.{eq-or-lt-of-le}
+use native.Mathlib.Omega.{arith}
+use lib.Dec.{T, leb, eqb}
+use borrow.Author.Tests.{eqb-true, leb-true}
+use Rattle.chars.specs.Lists.{all, bytes, member}
+use Rattle.chars.specs.Class.{between, isAtomChar, isDigit, isLabelChar, isLetter, isPrintable}
+use Rattle.chars.proofs.Laws.Lists.{all-member, and-left, and-right, or-cases}
+
+-- ---- on a range
+
+-- p and q are the same at the n numbers from lo on
+abbrev pub matches : (ℕ → Bool) → (ℕ → Bool) → ℕ → ℕ → Bool
+matches p q lo zero = true
+matches p q lo (suc n) = Bool·beq (p lo) (q lo) && matches p q (suc lo) n
+
+beq-path : (a b : Bool) → T (Bool·beq a b) → a ≡ b
+beq-path true true t = refl
+beq-path true false t = absurd t
+beq-path false true t = absurd t
+beq-path false false t = refl
+
+both : (a b : Bool) → T (a && b) → T a × T b
+both true b t = (tt, t)
+both false b t = absurd t
+
+pub on-range : (p q : ℕ → Bool) (lo n : ℕ) → T (matches p q lo n) → (b : ℕ) → lo ≤ b → b < lo + n → p b ≡ q b
+on-range p q lo zero t b l h = absurd (omega arith)
+on-range p q lo (suc n) t b l h =
+    ⊎-elim
+    (λ e. subst (λ (k : ℕ). p k ≡ q k) e (beq-path (p lo) (q lo) (both (Bool·beq (p lo) (q lo)) (matches p q (suc lo) n) t .0)))
+    (λ g. on-range p q (suc lo) n (both (Bool·beq (p lo) (q lo)) (matches p q (suc lo) n) t .1) b g (omega arith))
+    (eq-or-lt-of-le l)
+
+-- the same, but for the numbers at which r passes
+pub on-range-but : (r p q : ℕ → Bool) (lo n : ℕ) → T (matches (λ b. r b || Bool·beq (p b) (q b)) (λ _. true) lo n) → (b : ℕ) → lo ≤ b → b < lo + n → r b ≡ false → p b ≡ q b
+on-range-but r p q lo n t b l h e =
+    let f : (r b || Bool·beq (p b) (q b)) ≡ true = on-range (λ b. r b || Bool·beq (p b) (q b)) (λ _. true) lo n t b l h in
+    beq-path (p b) (q b) (subst⁻¹ T (rw e at f) tt)
+
+-- ---- where a class ends
+
+between-high : (lo hi b : ℕ) → between lo hi b ≡ true → b ≤ hi
+unfolding between
+between-high lo hi b e = leb-true b hi (and-right (leb lo b) (leb b hi) e)
+
+between-low : (lo hi b : ℕ) → between lo hi b ≡ true → lo ≤ b
+unfolding between
+between-low lo hi b e = leb-true lo b (and-left (leb lo b) (leb b hi) e)
+
+pub letter-below : (b : ℕ) → isLetter b ≡ true → b < 128
+unfolding isLetter
+letter-below b e =
+    or-cases (between 65 90 b) (between 97 122 b) e
+    (λ h. omega (arith, between-high 65 90 b h))
+    (λ h. omega (arith, between-high 97 122 b h))
+
+pub digit-below : (b : ℕ) → isDigit b ≡ true → b < 128
+unfolding isDigit
+digit-below b e = omega (arith, between-high 48 57 b e)
+
+letter-digit-below : (b : ℕ) → (isLetter b || isDigit b) ≡ true → b < 128
+letter-digit-below b e = or-cases (isLetter b) (isDigit b) e (letter-below b) (digit-below b)
+
+pub printable-below : (b : ℕ) → isPrintable b ≡ true → b < 128
+unfolding isPrintable bytes all
+printable-below b e =
+    or-cases (isLetter b || isDigit b) (member b (bytes " '+,-./:=?()")) e
+    (letter-digit-below b)
+    (λ h. omega (arith, leb-true b 127 (all-member (λ x. leb x 127) (bytes " '+,-./:=?()") b refl h)))
+
+pub label-below : (b : ℕ) → isLabelChar b ≡ true → b < 128
+unfolding isLabelChar
+label-below b e =
+    or-cases (isLetter b || isDigit b) (eqb b 45) e
+    (letter-digit-below b)
+    (λ h. omega (arith, eqb-true b 45 h))
+
+pub atom-range : (b : ℕ) → isAtomChar b ≡ true → (33 ≤ b) × (b ≤ 126)
+unfolding isAtomChar
+atom-range b e =
+    let h : between 33 126 b ≡ true = and-left (between 33 126 b) (not (member b (bytes "()<>@,;:\\\".[]"))) e in
+    (between-low 33 126 b h, between-high 33 126 b h)
+
+-- ---- which class lies in which
+
+-- p lies in q where p ends below n and it does up to there
+within : (p q : ℕ → Bool) (n : ℕ) → ((b : ℕ) → p b ≡ true → b < n) → T (matches (λ b. not (p b) || q b) (λ _. true) 0 n) → (b : ℕ) → p b ≡ true → q b ≡ true
+within p q n f t b e =
+    let h : (not (p b) || q b) ≡ true = on-range (λ b. not (p b) || q b) (λ _. true) 0 n t b zero-le (omega (arith, f b e)) in
+    rw e at h
+
+pub letter-printable : (b : ℕ) → isLetter b ≡ true → isPrintable b ≡ true
+unfolding between isLetter isPrintable bytes member
+letter-printable = within isLetter isPrintable 128 letter-below tt
+
+pub digit-printable : (b : ℕ) → isDigit b ≡ true → isPrintable b ≡ true
+unfolding between isDigit isPrintable bytes member
+digit-printable = within isDigit isPrintable 128 digit-below tt
+
+pub label-printable : (b : ℕ) → isLabelChar b ≡ true → isPrintable b ≡ true
+unfolding between isLabelChar isLetter isDigit isPrintable bytes member
+label-printable = within isLabelChar isPrintable 128 label-below tt
+
+pub label-atom : (b : ℕ) → isLabelChar b ≡ true → isAtomChar b ≡ true
+unfolding between isLabelChar isLetter isDigit isAtomChar bytes member
+label-atom = within isLabelChar isAtomChar 128 label-below tt

@@ -1,0 +1,64 @@
+-- Laws of take, drop, map and reading at a place, for any element, that the toolchain's library lacks.
+-- Assumes nothing.
+use mathlib.Core.Path.{_≡_, refl, sym, ap, _∙_}
+use mathlib.Core.List.{List, [], _∷_, map}
+use Prim.Native.Nat.{ℕ, zero, suc, _≤_, _<_, min}
+use native.Mathlib.Nat.{le-of-suc-le-suc, not-suc-le-zero, zero-lt-suc}
+use native.Mathlib.Omega.{arith}
+use borrow.Author.Tests.{lt-ltb}
+use lib.Dec.{ltb}
+use lib.ListN.{length, drop, getD, take, set, length-take, List·getD-map}
+use lib.Seq.{getD-take}
+use Rattle.chars.specs.Lists.{nonEmpty}
+
+module _ {A : Type 0} where
+  -- within a list what is read does not depend on the default
+  pub getD-any : (l : List A) (k : ℕ) (d e : A) → k < length l → getD l k d ≡ getD l k e
+  getD-any [] k d e h = absurd (not-suc-le-zero h)
+  getD-any (x ∷ l) zero d e h = refl
+  getD-any (x ∷ l) (suc k) d e h = getD-any l k d e (le-of-suc-le-suc h)
+
+  -- a part of a room is taken again by its own length
+  take-own : (n : ℕ) (l : List A) → take (length (take n l)) l ≡ take n l
+  take-own zero l = refl
+  take-own (suc n) [] = refl
+  take-own (suc n) (x ∷ l) = ap (λ s. x ∷ s) (take-own n l)
+
+-- the part of a room that is as long as its text is the text, and is within the room
+pub part-is : {A : Type 0} (n : ℕ) (b : List A) (m : ℕ) → m ≡ length (take n b) → take m b ≡ take n b
+part-is n b m e = ap (λ k. take k b) e ∙ take-own n b
+
+pub part-within : {A : Type 0} (n : ℕ) (b : List A) (m : ℕ) → m ≡ length (take n b) → m ≤ length b
+part-within n b m e = omega (arith, length-take n b)
+
+pub part-length : {A : Type 0} (n : ℕ) (b : List A) (m : ℕ) → m ≡ length (take n b) → m ≡ length (take m b)
+part-length n b m e = e ∙ ap length (sym (part-is n b m e))
+
+-- one of the first n, by what it holds
+pub getD-view : {A B : Type 0} (f : A → B) (l : List A) (n i : ℕ) (d : A) → i < length (take n (map f l)) → getD (take n (map f l)) i (f d) ≡ f (getD l i d)
+getD-view f l n i d h = getD-take n (map f l) i (f d) (omega (arith, length-take n (map f l))) ∙ List·getD-map f l i d
+
+pub map-set : {A B : Type 0} (f : A → B) (l : List A) (k : ℕ) (x : A) → map f (set l k x) ≡ set (map f l) k (f x)
+map-set f [] k x = refl
+map-set f (y ∷ l) zero x = refl
+map-set f (y ∷ l) (suc k) x = ap (λ s. f y ∷ s) (map-set f l k x)
+
+pub map-drop : {A B : Type 0} (f : A → B) (n : ℕ) (s : List A) → map f (drop n s) ≡ drop n (map f s)
+map-drop f zero s = refl
+map-drop f (suc n) [] = refl
+map-drop f (suc n) (x ∷ s) = map-drop f n s
+
+pub map-take : {A B : Type 0} (f : A → B) (n : ℕ) (s : List A) → map f (take n s) ≡ take n (map f s)
+map-take f zero s = refl
+map-take f (suc n) [] = refl
+map-take f (suc n) (x ∷ s) = rw (map-take f n s)
+
+-- the test for a text by its length, as code tests it
+pub some-length : {A : Type 0} (s : List A) → ltb 0 (length s) ≡ nonEmpty s
+unfolding nonEmpty
+some-length [] = refl
+some-length (x ∷ s) = lt-ltb 0 (suc (length s)) (zero-lt-suc (length s))
+
+-- how much of its room a text takes
+pub length-view : {A : Type 0} (n : ℕ) (b : List A) (room : ℕ) → length b ≡ room → length (take n b) ≡ min n room
+length-view n b room e = length-take n b ∙ ap (min n) e

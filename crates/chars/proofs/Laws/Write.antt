@@ -1,0 +1,55 @@
+-- Laws of text written into a buffer: two writes in a row are one, a write keeps the length, and what the buffer then holds.
+-- Assumes nothing.
+use mathlib.Core.Path.{_≡_, refl, sym, ap, _∙_}
+use Prim.Native.Nat.{ℕ, suc, _+_, _≤_, _<_}
+use native.Mathlib.Nat.{add-zero, add-suc, suc-add, zero-add}
+use native.Mathlib.Numerals.{add-one}
+use native.Mathlib.Omega.{arith}
+use mathlib.Core.List.{List, [], _∷_, _++_}
+use lib.ListN.{length, take, drop, set, getD, length-append, length-drop}
+use lib.Seq.{sets, sets-eq, length-sets, take-append-seam, drop-append-seam, drop-cons}
+use Rattle.chars.specs.Write.{Wrote, front}
+
+-- two runs of stores, one after the other
+pub sets-append : (l : List ℕ) (i : ℕ) (s t : List ℕ) → sets (sets l i s) (i + length s) t ≡ sets l i (s ++ t)
+sets-append l i [] t = rw add-zero
+sets-append l i (x ∷ s) t =
+    ap (λ (k : ℕ). sets (sets (set l i x) (suc i) s) k t) (add-suc i (length s) ∙ sym (suc-add i (length s)))
+    ∙ sets-append (set l i x) (suc i) s t
+
+-- a turn of a loop that stores s: what is left to store, from place k on
+pub sets-step : (l : List ℕ) (k : ℕ) (s : List ℕ) (i : ℕ) → i < length s
+    → sets l (k + i) (drop i s) ≡ sets (set l (k + i) (getD s i 0)) (k + (i + 1)) (drop (i + 1) s)
+sets-step l k s i h = rw (add-one, drop-cons s i 0, add-suc k i)
+
+pub wrote-nothing : {o : List ℕ} {i : ℕ} → Wrote o i [] i o
+wrote-nothing {o} {i} = record { moved = sym (add-zero i); holds = refl }
+
+pub wrote-then : {o m n s t : List ℕ} {i j k : ℕ} → Wrote o i s j m → Wrote m j t k n → Wrote o i (s ++ t) k n
+wrote-then {o} {m} {n} {s} {t} {i} {j} {k} a b = record {
+  moved = omega (arith, a .moved, b .moved, length-append s t);
+  holds = b .holds ∙ rw (a .holds, a .moved) (sets-append o i s t);
+}
+
+pub wrote-length : {o n s : List ℕ} {i j : ℕ} → Wrote o i s j n → length n ≡ length o
+wrote-length {o} {n} {s} {i} w = ap length (w .holds) ∙ length-sets o i s
+
+-- with room: before the text and after it the buffer is as it was
+pub wrote-place : {o n t : List ℕ} {i j : ℕ} → Wrote o i t j n → i + length t ≤ length o → n ≡ take i o ++ t ++ drop (i + length t) o
+wrote-place {o} {n} {t} {i} w h = w .holds ∙ sets-eq t o i h
+
+pub wrote-front : {o n t : List ℕ} {j : ℕ} → Wrote o 0 t j n → length t ≤ length o → n ≡ front t o
+unfolding front
+wrote-front {o} {n} {t} w h = wrote-place w (omega arith) ∙ rw zero-add
+
+pub length-front : (t o : List ℕ) → length t ≤ length o → length (front t o) ≡ length o
+unfolding front
+length-front t o h = simp (length-append, length-drop) (omega arith)
+
+pub take-front : (t o : List ℕ) → take (length t) (front t o) ≡ t
+unfolding front
+take-front t o = take-append-seam t (drop (length t) o)
+
+pub drop-front : (t o : List ℕ) → drop (length t) (front t o) ≡ drop (length t) o
+unfolding front
+drop-front t o = drop-append-seam t (drop (length t) o)

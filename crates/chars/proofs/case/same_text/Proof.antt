@@ -1,0 +1,79 @@
+-- `chars::case::same_text` meets its contract. The loop's invariant: the two are as long, and agree where what is left of them does.
+-- Assumes nothing.
+use mathlib.Core.Path.{_≡_, refl, sym, _∙_}
+use Prim.Native.Nat.{_≤_, _-_}
+use native.Mathlib.Omega.{arith}
+use borrow.Author.Needs.{needs}
+use borrow.Author.Tests.{not-false, not-true}
+use lib.ListN.{length, drop}
+use Rattle.chars.specs.Case.{agree, sameByte, sameText}
+use Rattle.chars.proofs.Laws.Case.{agree-end, agree-lengths-differ, agree-step}
+use Rattle.chars.proofs.case.same_text.Statement.{statement}
+use Rattle.chars.proofs.case.same_text.Tie as tie
+
+abbrev Inv-loop : tie.InvT-loop
+Inv-loop a b i₀ i = (i ≤ length a) × (length a ≡ length b) × (sameText a b ≡ agree sameByte (drop i a) (drop i b))
+
+abbrev μ-loop : tie.MeasureT-loop
+μ-loop a b i₀ i = length a - i
+
+returns : tie.Need-returns Inv-loop μ-loop
+unfolding sameText
+returns c = sym (agree-lengths-differ sameByte (c .before .before .before .args .a .now) (c .before .before .before .args .b .now) (c .if1 .taken))
+
+loop-holds : tie.Need-loop-holds Inv-loop μ-loop
+unfolding sameText
+loop-holds c = (omega arith, omega arith, refl)
+
+shared-slice-read-same-byte : tie.Need-shared-slice-read-same-byte Inv-loop μ-loop
+shared-slice-read-same-byte c = omega arith
+
+shared-slice-read-same-byte-2 : tie.Need-shared-slice-read-same-byte-2 Inv-loop μ-loop
+shared-slice-read-same-byte-2 c = omega arith
+
+same-byte-requires : tie.Need-same-byte-requires Inv-loop μ-loop
+same-byte-requires c κs = search needs
+
+returns-2 : tie.Need-returns-2 Inv-loop μ-loop
+returns-2 c =
+    let at = c .before .before .before .before .before in
+    sym
+    (at .loop .inv .2
+    ∙ agree-step sameByte (at .before .before .before .before .args .a .now) (at .before .before .before .before .args .b .now) (at .loop .i) 0 (omega arith) (omega arith)
+    ∙ rw (sym (c .before .same-byte .ensures) ∙ not-true (c .before .same-byte .result) (c .if2 .taken)))
+
+add-i : tie.Need-add-i Inv-loop μ-loop
+add-i c = omega arith
+
+loop-less : tie.Need-loop-less Inv-loop μ-loop
+loop-less c = omega arith
+
+loop-again : tie.Need-loop-again Inv-loop μ-loop
+loop-again c =
+    let at = c .before .before .before .before .before in (
+      omega arith,
+      omega arith,
+      at .loop .inv .2
+          ∙ agree-step sameByte (at .before .before .before .before .args .a .now) (at .before .before .before .before .args .b .now) (at .loop .i) 0 (omega arith) (omega arith)
+          ∙ rw (sym (c .before .same-byte .ensures) ∙ not-false (c .before .same-byte .result) (c .if2 .left)),
+    )
+
+returns-3 : tie.Need-returns-3 Inv-loop μ-loop
+returns-3 c = sym (c .before .loop .inv .2 ∙ agree-end sameByte (c .before .before .before .before .before .args .a .now) (c .before .before .before .before .before .args .b .now) (c .before .loop .i) (omega arith) (omega arith))
+
+pub same-text-spec : {M : Type 1} → statement M
+same-text-spec =
+    tie.close
+    (tie.spec
+    Inv-loop
+    μ-loop
+    returns
+    loop-holds
+    shared-slice-read-same-byte
+    shared-slice-read-same-byte-2
+    same-byte-requires
+    returns-2
+    add-i
+    loop-less
+    loop-again
+    returns-3)

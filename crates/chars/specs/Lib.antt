@@ -1,0 +1,7 @@
+pub mod Case
+pub mod Class
+pub mod Domain
+pub mod Lists
+pub mod Parts
+pub mod Spaces
+pub mod Write

@@ -1,0 +1,145 @@
+// Byte classes (document 01, "The record", "The table text", "Address to record").
+ghost use mathlib.Core.Path.{_≡_};
+ghost use Rattle.chars.specs.Class.{isAtomChar, isDigit, isIn, isLabelChar, isLetter, isPrintable};
+ghost use Rattle.chars.specs.Lists.{all};
+
+// A class by its name, for the loops that test a whole string.
+pub enum Class {
+    Letter,
+    Digit,
+    // a printable string character
+    Printable,
+    // a character of an RFC 822 atom
+    Atom,
+    // a letter, a digit or a hyphen
+    Label,
+    Any,
+}
+
+pub fn is_letter(b: u8) -> bool
+    ensures { λ r. ⌜ r ≡ isLetter b ⌝ }
+{
+    if b < b'A' {
+        return false;
+    }
+    if b <= b'Z' {
+        return true;
+    }
+    if b < b'a' {
+        return false;
+    }
+    b <= b'z'
+}
+
+pub fn is_digit(b: u8) -> bool
+    ensures { λ r. ⌜ r ≡ isDigit b ⌝ }
+{
+    if b < b'0' {
+        return false;
+    }
+    b <= b'9'
+}
+
+// The ranges are space, ' to ), + to : (the digits among them), = and ?, and the letters.
+pub fn is_printable(b: u8) -> bool
+    ensures { λ r. ⌜ r ≡ isPrintable b ⌝ }
+{
+    if b < b'\'' {
+        return b == b' ';
+    }
+    if b <= b')' {
+        return true;
+    }
+    if b < b'+' {
+        return false;
+    }
+    if b <= b':' {
+        return true;
+    }
+    if b == b'=' {
+        return true;
+    }
+    if b == b'?' {
+        return true;
+    }
+    is_letter(b)
+}
+
+// RFC 822's atom characters: bytes 33 to 126 without ( ) < > @ , ; : \ " . [ ]
+pub fn is_atom_char(b: u8) -> bool
+    ensures { λ r. ⌜ r ≡ isAtomChar b ⌝ }
+{
+    if b < b'#' {
+        return b == b'!';
+    }
+    if b <= b'\'' {
+        return true;
+    }
+    if b < b'*' {
+        return false;
+    }
+    if b <= b'+' {
+        return true;
+    }
+    if b < b'/' {
+        return b == b'-';
+    }
+    if b <= b'9' {
+        return true;
+    }
+    if b == b'=' {
+        return true;
+    }
+    if b == b'?' {
+        return true;
+    }
+    if b < b'A' {
+        return false;
+    }
+    if b <= b'Z' {
+        return true;
+    }
+    if b < b'^' {
+        return false;
+    }
+    b <= b'~'
+}
+
+pub fn is_label_char(b: u8) -> bool
+    ensures { λ r. ⌜ r ≡ isLabelChar b ⌝ }
+{
+    if b == b'-' {
+        return true;
+    }
+    if b < b'A' {
+        return is_digit(b);
+    }
+    is_letter(b)
+}
+
+pub fn is_in(class: Class, b: u8) -> bool
+    ensures { λ r. ⌜ r ≡ isIn class b ⌝ }
+{
+    match class {
+        Class::Letter => is_letter(b),
+        Class::Digit => is_digit(b),
+        Class::Printable => is_printable(b),
+        Class::Atom => is_atom_char(b),
+        Class::Label => is_label_char(b),
+        Class::Any => true,
+    }
+}
+
+// Whether each byte of `s` is of the class.
+pub fn all_in(s: &[u8], class: Class) -> bool
+    ensures { λ r. ⌜ r ≡ all (isIn class) (now (s .entry)) ⌝ }
+{
+    let mut i = 0;
+    while i < s.len() {
+        if !is_in(class, s[i]) {
+            return false;
+        }
+        i += 1;
+    }
+    true
+}

@@ -1,0 +1,22 @@
+-- `Dds::size` meets its contract: as many as the count says, and as there is room for.
+-- Assumes nothing.
+use mathlib.Core.Path.{sym, _∙_}
+use mathlib.Core.List.{map}
+use borrow.Author.Needs.{needs}
+use lib.ListN.{length-map}
+use Rattle.chars.proofs.Laws.Seq.{length-view}
+use Rattle.oraddr.specs.View.{ddView, ddsView}
+use Rattle.oraddr.proofs.record.Dds.size.Statement.{statement}
+use Rattle.oraddr.proofs.record.Dds.size.Tie as tie
+
+within-requires : tie.Need-within-requires
+within-requires c κs = search needs
+
+returns : tie.Need-returns
+unfolding ddsView
+returns c =
+    let u = c .before .args .self in
+    c .within .ensures ∙ sym (length-view (u .count) (map ddView (u .items)) 4 (length-map (u .items) ddView ∙ simp length-map at (c .before .good .0 .1 .1 .1 .0 .1 .0 .1)))
+
+pub size-spec : {M : Type 1} → statement M
+size-spec = tie.close (tie.spec within-requires returns)

@@ -1,0 +1,118 @@
+-- `Units::same` meets its contract. The loop's invariant: the two are as many, and agree where what is left of them does.
+-- Assumes nothing.
+use mathlib.Core.Path.{_≡_, refl, sym, _∙_}
+use mathlib.Core.Bool.{_&&_}
+use mathlib.Core.List.{[], map}
+use Prim.Native.Nat.{_+_, _≤_, _<_, _-_}
+use native.Mathlib.Omega.{arith}
+use borrow.Author.Needs.{needs}
+use borrow.Author.Tests.{not-false, not-true}
+use lib.ListN.{length, drop, length-map}
+use Rattle.chars.specs.Case.{agree, sameText}
+use Rattle.chars.proofs.Laws.Case.{agree-end, agree-lengths-differ, agree-step}
+use Rattle.chars.proofs.Laws.Seq.{getD-view, length-view}
+use Rattle.oraddr.specs.View.{unitView, unitsView}
+use Rattle.oraddr.proofs.record.Units.same.Statement.{statement}
+use Rattle.oraddr.proofs.record.Units.same.Tie as tie
+
+abbrev Inv-loop : tie.InvT-loop
+Inv-loop self other n i₀ i =
+    (i ≤ n) × (n ≤ 4) × (n ≡ length (unitsView self)) × (n ≡ length (unitsView other))
+    × (agree sameText (unitsView self) (unitsView other) ≡ agree sameText (drop i (unitsView self)) (drop i (unitsView other)))
+
+abbrev μ-loop : tie.MeasureT-loop
+μ-loop self other n i₀ i = n - i
+
+size-requires : tie.Need-size-requires Inv-loop μ-loop
+size-requires c κs = search needs
+
+size-requires-2 : tie.Need-size-requires-2 Inv-loop μ-loop
+size-requires-2 c κs = search needs
+
+returns : tie.Need-returns Inv-loop μ-loop
+returns c =
+    let at = c .before .before .before .args in
+    sym (agree-lengths-differ sameText (unitsView (at .t1)) (unitsView (at .t2)) (λ e. c .if1 .taken (c .before .before .size .ensures ∙ e ∙ sym (c .before .size2 .ensures))))
+
+loop-holds : tie.Need-loop-holds Inv-loop μ-loop
+unfolding unitsView
+loop-holds c =
+    let at = c .before .before .before in
+    let u = at .args .t1 in (
+      omega arith,
+      omega (arith, c .before .before .size .ensures, length-view (u .count) (map unitView (u .names)) 4 (length-map (u .names) unitView ∙ simp length-map at (at .good .0 .1 .1 .1 .0 .1 .0 .1))),
+      c .before .before .size .ensures,
+      c .if1 .left ∙ c .before .size2 .ensures,
+      refl,
+    )
+
+element-copy-out-a : tie.Need-element-copy-out-a Inv-loop μ-loop
+element-copy-out-a c = omega arith
+
+mul-a : tie.Need-mul-a Inv-loop μ-loop
+mul-a c = let h : c .before .loop .i < 4 = element-copy-out-a c in search needs
+
+element-copy-out-b : tie.Need-element-copy-out-b Inv-loop μ-loop
+element-copy-out-b c = omega arith
+
+mul-b : tie.Need-mul-b Inv-loop μ-loop
+mul-b c = let h : c .before .before .loop .i < 4 = element-copy-out-b c in search needs
+
+same-requires : tie.Need-same-requires Inv-loop μ-loop
+same-requires c κs = search needs
+
+step : (c : tie.After-same Inv-loop μ-loop) →
+    let at = c .before .before .before .before in
+    let a = at .before .before .before .before .args .t1 in
+    let b = at .before .before .before .before .args .t2 in
+    agree sameText (unitsView a) (unitsView b)
+    ≡ (c .same .result && agree sameText (drop (at .loop .i + 1) (unitsView a)) (drop (at .loop .i + 1) (unitsView b)))
+unfolding unitsView unitView
+step c =
+    let at = c .before .before .before .before in
+    let a = at .before .before .before .before .args .t1 in
+    let b = at .before .before .before .before .args .t2 in
+    at .loop .inv .4
+    ∙ agree-step sameText (unitsView a) (unitsView b) (at .loop .i) [] (omega arith) (omega arith)
+    ∙ rw (getD-view unitView (a .names) (a .count) (at .loop .i) (record { len = 0; bytes = [] }) (omega arith), getD-view unitView (b .names) (b .count) (at .loop .i) (record { len = 0; bytes = [] }) (omega arith), c .same .ensures)
+
+returns-2 : tie.Need-returns-2 Inv-loop μ-loop
+returns-2 c = sym (step (c .before) ∙ rw (not-true (c .before .same .result) (c .if2 .taken)))
+
+add-i : tie.Need-add-i Inv-loop μ-loop
+add-i c = omega arith
+
+loop-less : tie.Need-loop-less Inv-loop μ-loop
+loop-less c = omega arith
+
+loop-again : tie.Need-loop-again Inv-loop μ-loop
+loop-again c =
+    let at = c .before .before .before .before .before in
+    (omega arith, at .loop .inv .1, at .loop .inv .2, at .loop .inv .3, step (c .before) ∙ rw (not-false (c .before .same .result) (c .if2 .left)))
+
+returns-3 : tie.Need-returns-3 Inv-loop μ-loop
+returns-3 c =
+    let at = c .before in
+    let u = at .before .before .before .before .args in
+    sym (at .loop .inv .4 ∙ agree-end sameText (unitsView (u .t1)) (unitsView (u .t2)) (at .loop .i) (omega arith) (omega arith))
+
+pub same-spec : {M : Type 1} → statement M
+same-spec =
+    tie.close
+    (tie.spec
+    Inv-loop
+    μ-loop
+    size-requires
+    size-requires-2
+    returns
+    loop-holds
+    mul-a
+    element-copy-out-a
+    mul-b
+    element-copy-out-b
+    same-requires
+    returns-2
+    add-i
+    loop-less
+    loop-again
+    returns-3)

@@ -1,0 +1,21 @@
+-- `oraddr::value::OrgUnit::size` meets its contract: what a text takes of its room is its view's length.
+-- Assumes nothing.
+use borrow.Author.Needs.{needs}
+use mathlib.Core.Path.{sym, _∙_}
+use Rattle.chars.proofs.Laws.Seq.{length-view}
+use Rattle.oraddr.specs.Bounds.{boundOf, OU}
+use Rattle.oraddr.specs.View.{unitView}
+use Rattle.oraddr.proofs.value.OrgUnit.size.Statement.{statement}
+use Rattle.oraddr.proofs.value.OrgUnit.size.Tie as tie
+
+within-requires : tie.Need-within-requires
+within-requires c κs = search needs
+
+returns : tie.Need-returns
+unfolding unitView
+returns c =
+    let self = c .before .args .self in
+    c .within .ensures ∙ sym (length-view (self .len) (self .bytes) (boundOf OU) (search needs))
+
+pub size-spec : {M : Type 1} → statement M
+size-spec = tie.close (tie.spec within-requires returns)

@@ -1,0 +1,202 @@
+// Adding attributes to a record, one at a time (document 01, "The record").
+use crate::bounds::ADMD;
+use crate::bounds::C;
+use crate::bounds::DD_TYPE;
+use crate::bounds::DD_VALUE;
+use crate::bounds::G;
+use crate::bounds::GQ;
+use crate::bounds::I;
+use crate::bounds::MOST;
+use crate::bounds::O;
+use crate::bounds::OU;
+use crate::bounds::PRMD;
+use crate::bounds::S;
+use crate::bounds::is_value;
+use crate::bounds::keeps_rule;
+use crate::record::Dds;
+use crate::record::Record;
+use crate::record::Singles;
+use crate::record::Units;
+use crate::value::DdType;
+use crate::value::DdValue;
+use crate::value::DomainDefined;
+use crate::value::OrgUnit;
+use crate::value::Value;
+ghost use mathlib.Core.Path.{_≡_};
+ghost use mathlib.Core.Bool.{true};
+ghost use Prim.Native.Nat.{_<_, _≤_};
+ghost use lib.ListN.{length};
+ghost use Rattle.oraddr.specs.Add.{addDd, addSingle, addUnit, placeOf, pushDd, pushUnit, setSingle, told};
+ghost use Rattle.oraddr.specs.Attributes.{Dd};
+ghost use Rattle.oraddr.specs.Bounds.{boundOf, DD-TYPE, DD-VALUE};
+ghost use Rattle.oraddr.specs.Bounds.{O as O-BOUND, OU as OU-BOUND};
+ghost use Rattle.oraddr.specs.Canonical.{isDd};
+
+// An attribute that a record has once.
+pub enum Attribute {
+    C,
+    Admd,
+    Prmd,
+    O,
+    S,
+    G,
+    I,
+    Gq,
+}
+
+// The answer to an addition: done, document 01's number 0, or refused, its number 4.
+pub enum Added {
+    Done,
+    Refused,
+}
+
+// The record after an addition, or the record as it was where it is refused.
+pub struct Addition {
+    pub record: Record,
+    pub answer: Added,
+}
+
+// The number of an attribute in the table of bounds.
+pub fn place(a: Attribute) -> usize
+    ensures { λ r. ⌜ r ≡ placeOf a ⌝ }
+{
+    match a {
+        Attribute::C => C,
+        Attribute::Admd => ADMD,
+        Attribute::Prmd => PRMD,
+        Attribute::O => O,
+        Attribute::S => S,
+        Attribute::G => G,
+        Attribute::I => I,
+        Attribute::Gq => GQ,
+    }
+}
+
+impl Singles {
+    fn with(mut self, k: usize, value: &[u8]) -> Singles
+        requires { ⌜ k < 8 ⌝ }
+        requires { ⌜ length (now value) ≤ boundOf O-BOUND ⌝ }
+        ensures { λ r. ⌜ r ≡ setSingle self k (now (value .entry)) ⌝ }
+    {
+        self.values[k] = Value::of(value);
+        self
+    }
+}
+
+impl Units {
+    fn with(mut self, name: &[u8]) -> Units
+        requires { ⌜ self .count < 4 ⌝ }
+        requires { ⌜ length (now name) ≤ boundOf OU-BOUND ⌝ }
+        ensures { λ r. ⌜ r ≡ pushUnit self (now (name .entry)) ⌝ }
+    {
+        let count = self.count;
+        self.names[count] = OrgUnit::of(name);
+        self.count = count + 1;
+        self
+    }
+}
+
+impl Dds {
+    fn with(mut self, item: DomainDefined) -> Dds
+        requires { ⌜ self .count < 4 ⌝ }
+        ensures { λ r. ⌜ r ≡ pushDd self item ⌝ }
+    {
+        let count = self.count;
+        self.items[count] = item;
+        self.count = count + 1;
+        self
+    }
+}
+
+impl Record {
+    // Adds the attribute with the number k, which a record has once.
+    pub fn with_single(mut self, k: usize, value: &[u8]) -> Addition
+        requires { ⌜ k < 8 ⌝ }
+        ensures { λ r. ⌜ told r ≡ addSingle self k (now (value .entry)) ⌝ }
+    {
+        if !keeps_rule(k, value) {
+            return Addition {
+                record: self,
+                answer: Added::Refused,
+            };
+        }
+        let singles = self.singles;
+        let there = singles.value(k);
+        if there.len != 0 {
+            return Addition {
+                record: self, // there already
+                answer: Added::Refused,
+            };
+        }
+        self.singles = singles.with(k, value);
+        Addition {
+            record: self,
+            answer: Added::Done,
+        }
+    }
+
+    // Adds an attribute that a record has once.
+    pub fn with(self, a: Attribute, value: &[u8]) -> Addition
+        ensures { λ r. ⌜ told r ≡ addSingle self (placeOf a) (now (value .entry)) ⌝ }
+    {
+        self.with_single(place(a), value)
+    }
+
+    // Adds a unit behind those that are there: the most significant comes first.
+    pub fn with_unit(mut self, name: &[u8]) -> Addition
+        ensures { λ r. ⌜ told r ≡ addUnit self (now (name .entry)) ⌝ }
+    {
+        if !is_value(OU, name) {
+            return Addition {
+                record: self,
+                answer: Added::Refused,
+            };
+        }
+        let units = self.units;
+        if MOST <= units.count {
+            return Addition {
+                record: self,
+                answer: Added::Refused, // a fifth unit
+            };
+        }
+        self.units = units.with(name);
+        Addition {
+            record: self,
+            answer: Added::Done,
+        }
+    }
+
+    // Adds a domain defined attribute behind those that are there.
+    pub fn with_dd(mut self, kind: &[u8], value: &[u8]) -> Addition
+        ensures { λ r. ⌜ told r ≡ addDd self (now (kind .entry)) (now (value .entry)) ⌝ }
+    {
+        if !is_value(DD_TYPE, kind) {
+            return Addition {
+                record: self,
+                answer: Added::Refused,
+            };
+        }
+        if !is_value(DD_VALUE, value) {
+            return Addition {
+                record: self,
+                answer: Added::Refused,
+            };
+        }
+        let dds = self.dds;
+        if MOST <= dds.count {
+            return Addition {
+                record: self,
+                answer: Added::Refused,
+            };
+        }
+        let item = DomainDefined {
+            kind: DdType::of(kind),
+            value: DdValue::of(value),
+        };
+        self.dds = dds.with(item);
+        Addition {
+            record: self,
+            answer: Added::Done,
+        }
+    }
+}

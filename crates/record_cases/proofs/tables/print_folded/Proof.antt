@@ -1,0 +1,51 @@
+-- `record_cases::tables::print_folded` is safe and ends: the loop counts up to 256.
+-- Assumes nothing.
+use borrow.Author.Needs.{needs}
+use Prim.Native.Nat.{_≤_, _-_}
+use Rattle.record_cases.proofs.tables.print_folded.Statement.{statement}
+use Rattle.record_cases.proofs.tables.print_folded.Tie as tie
+
+abbrev Inv-loop : tie.InvT-loop
+Inv-loop i₀ i = i ≤ 256
+
+abbrev μ-loop : tie.MeasureT-loop
+μ-loop i₀ i = 256 - i
+
+loop-holds : tie.Need-loop-holds Inv-loop μ-loop
+loop-holds c = search needs
+
+cast-print-fold : tie.Need-cast-print-fold Inv-loop μ-loop
+cast-print-fold c = search needs
+
+print-fold-requires : tie.Need-print-fold-requires Inv-loop μ-loop
+print-fold-requires c κs = search needs
+
+add-i : tie.Need-add-i Inv-loop μ-loop
+add-i c = search needs
+
+loop-less : tie.Need-loop-less Inv-loop μ-loop
+loop-less c = search needs
+
+loop-again : tie.Need-loop-again Inv-loop μ-loop
+loop-again c = search needs
+
+line-end-requires : tie.Need-line-end-requires Inv-loop μ-loop
+line-end-requires c κs = search needs
+
+returns : tie.Need-returns Inv-loop μ-loop
+returns c = search needs
+
+pub print-folded-spec : {M : Type 1} → statement M
+print-folded-spec =
+    tie.close
+    (tie.spec
+    Inv-loop
+    μ-loop
+    loop-holds
+    cast-print-fold
+    print-fold-requires
+    add-i
+    loop-less
+    loop-again
+    line-end-requires
+    returns)
