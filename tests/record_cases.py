@@ -6,10 +6,10 @@ the repository's root after a change to the cases; `git diff` then shows what mo
 import random
 import re
 
+from rules import ATOM, PRINTABLE, is_text
+
 LETTERS = b"ABCDEFGHIJKLMNOPQRSTUVWXYZabcdefghijklmnopqrstuvwxyz"
 DIGITS = b"0123456789"
-PRINTABLE = LETTERS + DIGITS + b" '+,-./:=?()"
-ATOM = bytes(b for b in range(33, 127) if b not in b'()<>@,;:\\".[]')
 LABEL = LETTERS + DIGITS + b"-"
 SINGLE = "caposgiq"
 BOUND = {"a": 16, "p": 16, "o": 64, "u": 32, "s": 40, "g": 16, "i": 5, "q": 3}
@@ -19,10 +19,6 @@ LARGEST = 2**64 - 1
 
 def well_spaced(s):
     return not (s.startswith(b" ") or s.endswith(b" ") or b"  " in s)
-
-
-def is_text(s):
-    return s != b"" and all(b in PRINTABLE for b in s) and well_spaced(s)
 
 
 def keeps_rule(kind, s):

@@ -6,7 +6,7 @@ use mathlib.Core.Bool.{Bool, true, _&&_, _||_, not}
 use lib.Dec.{leb, eqb}
 use Rattle.chars.specs.Lists.{bytes, member}
 use Rattle.chars.specs.declared.class.Class.{Class}
-use Rattle.chars.specs.declared.class.Class.the-variants.{Any, Atom, Digit, Label, Letter, Printable}
+use Rattle.chars.specs.declared.class.Class.the-variants.{Any, Atom, Digit, Label, Letter, Printable, Quotable}
 
 -- from lo to hi, both included
 unfoldable pub between : ℕ → ℕ → ℕ → Bool
@@ -27,6 +27,11 @@ unfoldable pub isPrintable : ℕ → Bool
 unfolding bytes member isLetter isDigit
 isPrintable b = isLetter b || isDigit b || member b (bytes " '+,-./:=?()")
 
+-- document 01: "the printable string set and `$`"
+unfoldable pub isQuotable : ℕ → Bool
+unfolding isPrintable
+isQuotable b = isPrintable b || eqb b 36
+
 -- RFC 822's atoms are of "any CHAR except specials, SPACE and CTLs": bytes 33 to 126 without the specials
 unfoldable pub isAtomChar : ℕ → Bool
 unfolding bytes member between
@@ -42,6 +47,7 @@ unfoldable pub isIn : Class → ℕ → Bool
 isIn Letter b = isLetter b
 isIn Digit b = isDigit b
 isIn Printable b = isPrintable b
+isIn Quotable b = isQuotable b
 isIn Atom b = isAtomChar b
 isIn Label b = isLabelChar b
 isIn Any b = true

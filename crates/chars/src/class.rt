@@ -1,6 +1,6 @@
 // Byte classes (document 01, "The record", "The table text", "Address to record").
 ghost use mathlib.Core.Path.{_≡_};
-ghost use Rattle.chars.specs.Class.{isAtomChar, isDigit, isIn, isLabelChar, isLetter, isPrintable};
+ghost use Rattle.chars.specs.Class.{isAtomChar, isDigit, isIn, isLabelChar, isLetter, isPrintable, isQuotable};
 ghost use Rattle.chars.specs.Lists.{all};
 
 // A class by its name, for the loops that test a whole string.
@@ -9,6 +9,8 @@ pub enum Class {
     Digit,
     // a printable string character
     Printable,
+    // one of those, or `$`, which quotes them
+    Quotable,
     // a character of an RFC 822 atom
     Atom,
     // a letter, a digit or a hyphen
@@ -63,6 +65,16 @@ pub fn is_printable(b: u8) -> bool
         return true;
     }
     is_letter(b)
+}
+
+// A printable string character, or the `$` that quotes one.
+pub fn is_quotable(b: u8) -> bool
+    ensures { λ r. ⌜ r ≡ isQuotable b ⌝ }
+{
+    if b == b'$' {
+        return true;
+    }
+    is_printable(b)
 }
 
 // RFC 822's atom characters: bytes 33 to 126 without ( ) < > @ , ; : \ " . [ ]
@@ -124,6 +136,7 @@ pub fn is_in(class: Class, b: u8) -> bool
         Class::Letter => is_letter(b),
         Class::Digit => is_digit(b),
         Class::Printable => is_printable(b),
+        Class::Quotable => is_quotable(b),
         Class::Atom => is_atom_char(b),
         Class::Label => is_label_char(b),
         Class::Any => true,

@@ -5,11 +5,18 @@ use crate::class::all_in;
 use crate::class::is_in;
 ghost use mathlib.Core.Path.{_≡_};
 ghost use Prim.Native.Nat.{_+_};
-ghost use lib.ListN.{drop};
+ghost use lib.ListN.{drop, getD};
 ghost use Rattle.chars.specs.Class.{isIn};
 ghost use Rattle.chars.specs.Domain.{isDomainPart};
 ghost use Rattle.chars.specs.Parts.{isAtoms, isParted, run};
 ghost use Rattle.chars.specs.Spaces.{isText, wellSpaced};
+
+// The byte at a place, 0 past the end: 0 is in no class.
+pub fn byte_at(s: &[u8], i: usize) -> u8
+    ensures { λ r. ⌜ r ≡ getD (now (s .entry)) i 0 ⌝ }
+{
+    if i < s.len() { s[i] } else { 0 }
+}
 
 // Where the part that starts at `from` ends: at the next separator, or at the end of the text.
 pub fn part_end(s: &[u8], from: usize, sep: u8) -> usize

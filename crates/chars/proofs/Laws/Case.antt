@@ -12,10 +12,10 @@ use lib.ListN.{length, getD, take, drop, length-map, drop-of-length-le}
 use lib.Seq.{drop-cons}
 use borrow.Author.Tests.{eq-eqb, eqb-true, leb-true, leb-false, le-leb, lt-leb}
 use Rattle.chars.specs.Lists.{all, bytes, first, last, member}
-use Rattle.chars.specs.Class.{between, isAtomChar, isDigit, isIn, isLabelChar, isLetter, isPrintable}
+use Rattle.chars.specs.Class.{between, isAtomChar, isDigit, isIn, isLabelChar, isLetter, isPrintable, isQuotable}
 use Rattle.chars.specs.Case.{agree, equalText, foldCase, foldText, sameByte, sameText}
 use Rattle.chars.specs.declared.class.Class.{Class}
-use Rattle.chars.specs.declared.class.Class.the-variants.{Any, Atom, Digit, Label, Letter, Printable}
+use Rattle.chars.specs.declared.class.Class.the-variants.{Any, Atom, Digit, Label, Letter, Printable, Quotable}
 use Rattle.chars.proofs.Laws.Lists.{all-ext, all-map, and-both, and-left, and-right, bool-same, by-test, true-not-false}
 use Rattle.chars.proofs.Laws.Class.{on-range}
 
@@ -53,13 +53,14 @@ fold-other b h = by-test (between 65 90 b) (λ e. true-not-false true refl (rw e
 
 -- every class has a letter with its small one
 pub class-fold : (k : Class) (b : ℕ) → isIn k (foldCase b) ≡ isIn k b
-unfolding isIn isLetter isDigit isPrintable isAtomChar isLabelChar between bytes member foldCase
+unfolding isIn isLetter isDigit isPrintable isQuotable isAtomChar isLabelChar between bytes member foldCase
 class-fold k b = by-capital b (λ l h. capital k b l h) (λ e. ap (isIn k) e)
   where
     capital : (k : Class) (b : ℕ) → 65 ≤ b → b ≤ 90 → isIn k (foldCase b) ≡ isIn k b
     capital Letter b l h = on-range (λ b. isLetter (foldCase b)) isLetter 65 26 tt b l (omega arith)
     capital Digit b l h = on-range (λ b. isDigit (foldCase b)) isDigit 65 26 tt b l (omega arith)
     capital Printable b l h = on-range (λ b. isPrintable (foldCase b)) isPrintable 65 26 tt b l (omega arith)
+    capital Quotable b l h = on-range (λ b. isQuotable (foldCase b)) isQuotable 65 26 tt b l (omega arith)
     capital Atom b l h = on-range (λ b. isAtomChar (foldCase b)) isAtomChar 65 26 tt b l (omega arith)
     capital Label b l h = on-range (λ b. isLabelChar (foldCase b)) isLabelChar 65 26 tt b l (omega arith)
     capital Any b l h = refl

@@ -17,6 +17,7 @@ use Rattle.chars.specs.Parts.{isPart}
 use Rattle.chars.proofs.Laws.Lists.{all-weaken, and-both, and-left, and-right, first-at, last-at}
 use Rattle.chars.proofs.Laws.Case.{all-fold, first-fold, last-fold, length-fold}
 use Rattle.chars.proofs.Laws.Class.{label-atom}
+use Rattle.chars.proofs.Laws.Seq.{some-length}
 use Rattle.chars.proofs.Laws.Parts.{fold-is}
 
 -- ---- the tests in the order in which code makes them
@@ -76,11 +77,6 @@ module _ (s : List ℕ) (h : isDomainPart s ≡ true) where
 
   pub domain-part-label : all isLabelChar s ≡ true
   domain-part-label = and-right (leb 1 (length s) && leb (length s) 63) (all isLabelChar s) sized-label
-
-some-length : (s : List ℕ) → 1 ≤ length s → nonEmpty s ≡ true
-unfolding nonEmpty
-some-length [] h = absurd (omega arith)
-some-length (x ∷ s) h = refl
 
 -- a domain part is an atom
 pub domain-part-atom : (s : List ℕ) → isDomainPart s ≡ true → isPart isAtomChar s ≡ true

@@ -1,15 +1,17 @@
 -- Laws of take, drop, map and reading at a place, for any element, that the toolchain's library lacks.
 -- Assumes nothing.
 use mathlib.Core.Path.{_≡_, refl, sym, ap, _∙_}
-use mathlib.Core.List.{List, [], _∷_, map}
+use mathlib.Core.Bool.{true, false}
+use mathlib.Core.List.{List, [], _∷_, _++_, map}
 use Prim.Native.Nat.{ℕ, zero, suc, _≤_, _<_, min}
 use native.Mathlib.Nat.{le-of-suc-le-suc, not-suc-le-zero, zero-lt-suc}
 use native.Mathlib.Omega.{arith}
-use borrow.Author.Tests.{lt-ltb}
+use borrow.Author.Tests.{lt-ltb, ltb-false, ltb-true}
 use lib.Dec.{ltb}
-use lib.ListN.{length, drop, getD, take, set, length-take, List·getD-map}
+use lib.ListN.{length, drop, getD, take, set, length-take, List·getD-eq-default, List·getD-map}
 use lib.Seq.{getD-take}
 use Rattle.chars.specs.Lists.{nonEmpty}
+use Rattle.chars.proofs.Laws.Lists.{by-test}
 
 module _ {A : Type 0} where
   -- within a list what is read does not depend on the default
@@ -53,11 +55,33 @@ map-take f zero s = refl
 map-take f (suc n) [] = refl
 map-take f (suc n) (x ∷ s) = rw (map-take f n s)
 
--- the test for a text by its length, as code tests it
-pub some-length : {A : Type 0} (s : List A) → ltb 0 (length s) ≡ nonEmpty s
+-- the test for a list by its length, as code tests it
+pub some-test : {A : Type 0} (s : List A) → ltb 0 (length s) ≡ nonEmpty s
 unfolding nonEmpty
-some-length [] = refl
-some-length (x ∷ s) = lt-ltb 0 (suc (length s)) (zero-lt-suc (length s))
+some-test [] = refl
+some-test (x ∷ s) = lt-ltb 0 (suc (length s)) (zero-lt-suc (length s))
+
+pub some-length : {A : Type 0} (s : List A) → 0 < length s → nonEmpty s ≡ true
+some-length s h = sym (some-test s) ∙ lt-ltb 0 (length s) h
+
+pub no-length : {A : Type 0} (s : List A) → length s ≤ 0 → s ≡ []
+no-length [] h = refl
+no-length (x ∷ s) h = absurd (not-suc-le-zero h)
+
+pub some-append : {A : Type 0} (s t : List A) → nonEmpty t ≡ true → nonEmpty (s ++ t) ≡ true
+unfolding nonEmpty
+some-append [] t h = h
+some-append (x ∷ s) t h = refl
+
+pub absent-is : {A : Type 0} (s : List A) → nonEmpty s ≡ false → s ≡ []
+absent-is s h = no-length s (ltb-false 0 (length s) (some-test s ∙ h))
+
+-- a byte that is not 0 stands in the text
+pub byte-inside : (s : List ℕ) (i : ℕ) → 0 < getD s i 0 → i < length s
+byte-inside s i h =
+    by-test (ltb i (length s))
+    (λ e. ltb-true i (length s) e)
+    (λ e. absurd (omega (arith, List·getD-eq-default s 0 (ltb-false i (length s) e))))
 
 -- how much of its room a text takes
 pub length-view : {A : Type 0} (n : ℕ) (b : List A) (room : ℕ) → length b ≡ room → length (take n b) ≡ min n room

@@ -25,6 +25,10 @@ sets-step l k s i h = rw (add-one, drop-cons s i 0, add-suc k i)
 pub wrote-nothing : {o : List ℕ} {i : ℕ} → Wrote o i [] i o
 wrote-nothing {o} {i} = record { moved = sym (add-zero i); holds = refl }
 
+-- a store is a write of one byte
+pub wrote-one : {o : List ℕ} {i : ℕ} (b : ℕ) → Wrote o i (b ∷ []) (i + 1) (set o i b)
+wrote-one b = record { moved = refl; holds = refl }
+
 pub wrote-then : {o m n s t : List ℕ} {i j k : ℕ} → Wrote o i s j m → Wrote m j t k n → Wrote o i (s ++ t) k n
 wrote-then {o} {m} {n} {s} {t} {i} {j} {k} a b = record {
   moved = omega (arith, a .moved, b .moved, length-append s t);

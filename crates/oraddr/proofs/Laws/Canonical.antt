@@ -20,7 +20,7 @@ use Rattle.chars.proofs.Laws.Lists.{all-and, all-end, all-map, all-step, and-le
 use Rattle.chars.proofs.Laws.Case.{agree-length, all-fold, equal-path, length-fold, same-path, same-refl}
 use Rattle.chars.proofs.Laws.Parts.{fold-is}
 use Rattle.chars.proofs.Laws.Spaces.{text-fold}
-use Rattle.chars.proofs.Laws.Seq.{map-take, some-length}
+use Rattle.chars.proofs.Laws.Seq.{map-take, some-test}
 use Rattle.oraddr.specs.Attributes.{Attributes, Dd, singleOf}
 use Rattle.oraddr.specs.Bounds.{boundOf, isCountry, isSpace, isValue, most, rule, ADMD, C, DD-TYPE, DD-VALUE, G, GQ, I, O, OU, S}
 use Rattle.oraddr.specs.Same.{sameAttributes, sameDd}
@@ -165,7 +165,7 @@ parts-canonical a p =
 -- ---- letter case is no matter to a rule
 
 by-length : {A B : Type 0} (s : List A) (t : List B) → length s ≡ length t → nonEmpty s ≡ nonEmpty t
-by-length s t e = sym (some-length s) ∙ ap (ltb 0) e ∙ some-length t
+by-length s t e = sym (some-test s) ∙ ap (ltb 0) e ∙ some-test t
 
 space-fold : (s : List ℕ) → isSpace (foldText s) ≡ isSpace s
 unfolding foldText isSpace equalText agree isLetter between

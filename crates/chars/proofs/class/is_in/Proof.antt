@@ -26,17 +26,23 @@ is-printable-requires c κs = search needs
 enum-told-4 : tie.Need-enum-told-4
 enum-told-4 c = search needs
 
-is-atom-char-requires : tie.Need-is-atom-char-requires
-is-atom-char-requires c κs = search needs
+is-quotable-requires : tie.Need-is-quotable-requires
+is-quotable-requires c κs = search needs
 
 enum-told-5 : tie.Need-enum-told-5
 enum-told-5 c = search needs
 
-is-label-char-requires : tie.Need-is-label-char-requires
-is-label-char-requires c κs = search needs
+is-atom-char-requires : tie.Need-is-atom-char-requires
+is-atom-char-requires c κs = search needs
 
 enum-told-6 : tie.Need-enum-told-6
 enum-told-6 c = search needs
+
+is-label-char-requires : tie.Need-is-label-char-requires
+is-label-char-requires c κs = search needs
+
+enum-told-7 : tie.Need-enum-told-7
+enum-told-7 c = search needs
 
 returns : tie.Need-returns
 unfolding isIn
@@ -52,15 +58,19 @@ returns-3 c = rw (c .before .enum-told3 .given .1) (c .is-printable .ensures)
 
 returns-4 : tie.Need-returns-4
 unfolding isIn
-returns-4 c = rw (c .before .enum-told4 .given .1) (c .is-atom-char .ensures)
+returns-4 c = rw (c .before .enum-told4 .given .1) (c .is-quotable .ensures)
 
 returns-5 : tie.Need-returns-5
 unfolding isIn
-returns-5 c = rw (c .before .enum-told5 .given .1) (c .is-label-char .ensures)
+returns-5 c = rw (c .before .enum-told5 .given .1) (c .is-atom-char .ensures)
 
 returns-6 : tie.Need-returns-6
 unfolding isIn
-returns-6 c = rw (c .enum-told6 .given .1)
+returns-6 c = rw (c .before .enum-told6 .given .1) (c .is-label-char .ensures)
+
+returns-7 : tie.Need-returns-7
+unfolding isIn
+returns-7 c = rw (c .enum-told7 .given .1)
 
 pub is-in-spec : {M : Type 1} → statement M
 is-in-spec =
@@ -73,13 +83,16 @@ is-in-spec =
     enum-told-3
     is-printable-requires
     enum-told-4
-    is-atom-char-requires
+    is-quotable-requires
     enum-told-5
-    is-label-char-requires
+    is-atom-char-requires
     enum-told-6
+    is-label-char-requires
+    enum-told-7
     returns
     returns-2
     returns-3
     returns-4
     returns-5
-    returns-6)
+    returns-6
+    returns-7)

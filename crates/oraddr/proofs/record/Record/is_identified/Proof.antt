@@ -6,7 +6,7 @@ use borrow.Author.Tests.{le-ltb, lt-ltb}
 use lib.Dec.{ltb}
 use lib.ListN.{length}
 use Rattle.chars.specs.Lists.{nonEmpty}
-use Rattle.chars.proofs.Laws.Seq.{some-length}
+use Rattle.chars.proofs.Laws.Seq.{some-test}
 use Rattle.oraddr.specs.Attributes.{singleOf}
 use Rattle.oraddr.specs.Bounds.{S}
 use Rattle.oraddr.specs.Canonical.{identified}
@@ -16,7 +16,7 @@ use Rattle.oraddr.proofs.record.Record.is_identified.Tie as tie
 
 surname : (c : tie.After-size) → nonEmpty (singleOf (view (c .before .before .args .self)) S) ≡ ltb 0 (c .size .result)
 surname c =
-    sym (some-length (singleOf (view (c .before .before .args .self)) S))
+    sym (some-test (singleOf (view (c .before .before .args .self)) S))
     ∙ ap (ltb 0) (sym (c .size .ensures ∙ ap length (c .before .single .ensures)))
 
 single-requires : tie.Need-single-requires
@@ -37,7 +37,7 @@ unfolding identified view
 returns-2 c =
     let at = c .before .before in
     rw (surname (at .before) ∙ le-ltb 0 (at .before .size .result) (at .if1 .left), c .size2 .ensures)
-    (some-length (ddsView (at .before .before .before .args .self .dds)))
+    (some-test (ddsView (at .before .before .before .args .self .dds)))
 
 pub is-identified-spec : {M : Type 1} → statement M
 is-identified-spec =

@@ -1,0 +1,16 @@
+pub mod Adding
+pub mod Answers
+pub mod Apply
+pub mod Back
+pub mod Held
+pub mod Keys
+pub mod Left
+pub mod Name
+pub mod Quoted
+pub mod Scan
+pub mod Scanned
+pub mod Segments
+pub mod Spans
+pub mod Values
+pub mod Write
+pub mod Written
