@@ -1,0 +1,7 @@
+pub mod Fields
+pub mod FirstBad
+pub mod Load
+pub mod Lookup
+pub mod Paths
+pub mod Rows
+pub mod Tails

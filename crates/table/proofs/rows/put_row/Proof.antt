@@ -1,0 +1,77 @@
+-- `table::rows::put_row` meets its contract: the four stores are one run of them.
+-- Assumes nothing.
+use mathlib.Core.Path.{_≡_}
+use Prim.Native.Nat.{suc, _+_, _*_}
+use native.Mathlib.Omega.{arith}
+use lib.ListN.{length-set}
+use borrow.Author.Needs.{needs}
+use Rattle.table.specs.Rows.{putAt}
+use Rattle.table.proofs.rows.put_row.Statement.{statement}
+use Rattle.table.proofs.rows.put_row.Tie as tie
+
+mul-at : tie.Need-mul-at
+mul-at c = search needs
+
+mul-rows : tie.Need-mul-rows
+mul-rows c = search needs
+
+slice-write-rows : tie.Need-slice-write-rows
+slice-write-rows c = search needs
+
+add-rows : tie.Need-add-rows
+add-rows c = search needs
+
+mul-rows-2 : tie.Need-mul-rows-2
+mul-rows-2 c = search needs
+
+slice-write-rows-2 : tie.Need-slice-write-rows-2
+slice-write-rows-2 c = simp length-set (omega arith)
+
+add-rows-2 : tie.Need-add-rows-2
+add-rows-2 c = search needs
+
+mul-rows-3 : tie.Need-mul-rows-3
+mul-rows-3 c = search needs
+
+slice-write-rows-3 : tie.Need-slice-write-rows-3
+slice-write-rows-3 c = simp length-set (omega arith)
+
+add-rows-3 : tie.Need-add-rows-3
+add-rows-3 c = search needs
+
+mul-rows-4 : tie.Need-mul-rows-4
+mul-rows-4 c = search needs
+
+slice-write-rows-4 : tie.Need-slice-write-rows-4
+slice-write-rows-4 c = simp length-set (omega arith)
+
+same-length : tie.Need-same-length
+same-length c = search needs
+
+returns : tie.Need-returns
+unfolding putAt
+returns c =
+    let k = c .args .i * 4 in
+    let e : k + 1 ≡ suc k = omega arith in
+    let f : k + 2 ≡ suc (suc k) = omega arith in
+    let g : k + 3 ≡ suc (suc (suc k)) = omega arith in
+    rw (e, f, g)
+
+pub put-row-spec : {M : Type 1} → statement M
+put-row-spec =
+    tie.close
+    (tie.spec
+    mul-at
+    mul-rows
+    slice-write-rows
+    add-rows
+    mul-rows-2
+    slice-write-rows-2
+    add-rows-2
+    mul-rows-3
+    slice-write-rows-3
+    add-rows-3
+    mul-rows-4
+    slice-write-rows-4
+    same-length
+    returns)

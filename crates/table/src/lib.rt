@@ -1,0 +1,6 @@
+// The table (document 01, "The table text"): its text read, the first bad line found, its rows looked up.
+pub mod level;
+pub mod line;
+pub mod load;
+pub mod lookup;
+pub mod rows;

@@ -1,0 +1,48 @@
+-- `text_cases::settled::base` is safe and ends: the loop counts up to the number of levels, and no turn adds a DD.
+-- Assumes nothing.
+use borrow.Author.Needs.{needs}
+use mathlib.Core.Path.{_≡_}
+use Prim.Native.Nat.{_-_}
+use Rattle.text_cases.proofs.settled.base.Statement.{statement}
+use Rattle.text_cases.proofs.settled.base.Tie as tie
+
+abbrev Inv-loop : tie.InvT-loop
+Inv-loop digit n rec₀ k₀ rec k = rec .dds .count ≡ 0
+
+abbrev μ-loop : tie.MeasureT-loop
+μ-loop digit n rec₀ k₀ rec k = n - k
+
+filled-requires : tie.Need-filled-requires Inv-loop μ-loop
+filled-requires c κs = search needs
+
+loop-holds : tie.Need-loop-holds Inv-loop μ-loop
+loop-holds c = search needs
+
+with-level-requires : tie.Need-with-level-requires Inv-loop μ-loop
+with-level-requires c κs = search needs
+
+add-k : tie.Need-add-k Inv-loop μ-loop
+add-k c = search needs
+
+loop-less : tie.Need-loop-less Inv-loop μ-loop
+loop-less c = search needs
+
+loop-again : tie.Need-loop-again Inv-loop μ-loop
+loop-again c = search needs
+
+returns : tie.Need-returns Inv-loop μ-loop
+returns c = search needs
+
+pub base-spec : {M : Type 1} → statement M
+base-spec =
+    tie.close
+    (tie.spec
+    Inv-loop
+    μ-loop
+    filled-requires
+    loop-holds
+    with-level-requires
+    add-k
+    loop-less
+    loop-again
+    returns)

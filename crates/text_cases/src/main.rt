@@ -1,0 +1,74 @@
+// Runs the cases of `ortext` that stand in stdin, and prints what comes of each. The cases and what must be printed are made
+// by tests/text_cases.py, which follows document 01 by itself and runs nothing of the library.
+//
+// Standard input is lines; each is a command byte, a digit and a text:
+//   T n TEXT    read TEXT as record text
+//   L n TEXT    read TEXT as a local part: record text, or else a name
+//   N 0 TEXT    read TEXT as a personal name
+// The digit says how many levels are settled first, of XY, P, TOW, brack, u1, u2, u3, u4; 9 settles XY, P and an omitted
+// PRMD. What is printed of a reading: unread, refused, again, or whether the record is canonical and, if it is, its record
+// text, and its local part with none to all eight of its levels left out.
+mod print;
+mod settled;
+
+use print::print_name;
+use print::print_reading;
+use print::say;
+use settled::base;
+use settled::levels;
+ghost use Prim.Native.Nat.{_<_, _≤_};
+ghost use lib.ListN.{length};
+
+// Standard input, at most.
+const ROOM: usize = 262144;
+
+fn run_text(digit: u8, text: &[u8]) {
+    print_reading(ortext::read::read_text(base(digit), levels(digit), text));
+}
+
+fn run_local(digit: u8, text: &[u8]) {
+    print_reading(ortext::read::read_local(base(digit), levels(digit), text));
+}
+
+fn run_case(line: &[u8])
+    requires { ⌜ 2 ≤ length (now line) ⌝ }
+{
+    let text = &line[2..];
+    match line[0] {
+        b'N' => print_name(text),
+        b'T' => run_text(line[1], text),
+        _ => run_local(line[1], text),
+    }
+}
+
+// One line: a command, a digit and a text.
+fn run_line(line: &[u8]) {
+    if line.len() < 2 {
+        return;
+    }
+    run_case(line);
+    say(b"\n");
+}
+
+// Where the line that starts at a place ends.
+fn line_end(s: &[u8], from: usize) -> usize
+    requires { ⌜ from < length (now s) ⌝ }
+    ensures { λ r. ⌜ (from ≤ r) × (r ≤ length (now (s .entry))) ⌝ }
+{
+    chars::parts::part_end(s, from, b'\n')
+}
+
+fn run(s: &[u8]) {
+    let mut from = 0;
+    while from < s.len() {
+        let end = line_end(s, from);
+        run_line(&s[from..end]);
+        from = end + 1;
+    }
+}
+
+fn main() {
+    let mut space = [0u8; ROOM];
+    let n = io::read_full(libc::STDIN_FILENO, &mut space);
+    run(&space[..n]);
+}
