@@ -1,0 +1,33 @@
+// What the program prints.
+use libc::STDOUT_FILENO;
+use table::lookup::Found;
+
+pub fn say(s: &[u8]) {
+    io::write_all(STDOUT_FILENO, s);
+}
+
+fn say_number(n: usize) {
+    io::print_decimal(STDOUT_FILENO, n as u64);
+}
+
+pub fn print_malformed(line: usize) {
+    say(b"7 ");
+    say_number(line);
+    say(b"\n");
+}
+
+pub fn print_rows(to_path: usize, to_domain: usize) {
+    say(b"0 ");
+    say_number(to_path);
+    say(b" ");
+    say_number(to_domain);
+    say(b"\n");
+}
+
+pub fn print_found(found: Found) {
+    match found {
+        Found::At(i) => say_number(i),
+        Found::Nowhere => say(b"none"),
+    }
+    say(b"\n");
+}
