@@ -4,4 +4,5 @@ pub mod Load
 pub mod Lookup
 pub mod Paths
 pub mod Rows
+pub mod Settle
 pub mod Tails

@@ -5,4 +5,5 @@ pub mod Load
 pub mod Looked
 pub mod Lookup
 pub mod Rows
+pub mod Settle
 pub mod Table

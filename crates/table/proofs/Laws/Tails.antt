@@ -80,7 +80,7 @@ begins-cut (p ∷ ps) (q ∷ qs) h =
       ap₂ (λ (x : List ℕ) (t : List Token). x ∷ t) (same-path p q (and-left (sameText p q) (begins ps qs) h)) (c .3),
     )
 
-fold-parts : (t a : List ℕ) → sameText t a ≡ true → map foldText (partsOf a) ≡ map foldText (partsOf t)
+pub fold-parts : (t a : List ℕ) → sameText t a ≡ true → map foldText (partsOf a) ≡ map foldText (partsOf t)
 fold-parts t a h = sym (parts-fold a) ∙ ap partsOf (sym (same-path t a h)) ∙ parts-fold t
 
 parts-same : (a : List ℕ) (p : List Token) → map foldText (partsOf a) ≡ map foldText p → sameText (domainOf p) a ≡ true
@@ -117,7 +117,7 @@ tail-of a d h =
 
 module _ (a d : List ℕ) where
   -- the same by places
-  tail-place : begins (partsOf a) (partsOf d) ≡ true
+  pub tail-place : begins (partsOf a) (partsOf d) ≡ true
       → (length a ≤ length d) × (sameText (drop (length d - length a) d) a ≡ true) × (0 < length d - length a → getD d (length d - length a - 1) 0 ≡ 46)
   tail-place h =
       ⊎-elim
