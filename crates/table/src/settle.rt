@@ -1,9 +1,10 @@
 // Step 1 of "Address to record": the levels that a domain settles, by its row and the parts left over, added to a record.
+use crate::level::LevelKind;
+use crate::level::level_at;
 use crate::line::Row;
 use crate::lookup::Found;
 use crate::lookup::find_domain;
 use crate::rows::row_at;
-use chars::parts::part_end;
 use mailaddr::domain::count_parts;
 use mailaddr::domain::part_start;
 use oraddr::add::Added;
@@ -12,15 +13,14 @@ use oraddr::bounds::OWN_LEVELS;
 use oraddr::record::EMPTY;
 use oraddr::record::Record;
 ghost use mathlib.Core.Path.{_≡_};
-ghost use mathlib.Core.Bool.{true};
 ghost use mathlib.Core.List.{_++_};
 ghost use mathlib.Core.Option.{some};
-ghost use Prim.Native.Nat.{ℕ, _+_, _-_, _<_, _≤_};
+ghost use Prim.Native.Nat.{_+_, _-_, _≤_};
 ghost use lib.ListN.{length};
-ghost use Rattle.mailaddr.specs.Domain.{partsOf};
 ghost use Rattle.oraddr.specs.Add.{told};
-ghost use Rattle.table.specs.Lookup.{begins};
-ghost use Rattle.table.specs.Rows.{Inside, RowInside, between, fieldsAt, placesAt, rowAt, rowsAt};
+ghost use Rattle.table.specs.Levels.{levelToken};
+ghost use Rattle.table.specs.Looked.{KindInside};
+ghost use Rattle.table.specs.Rows.{Inside, RowInside, fieldsAt, rowAt, rowsAt};
 ghost use Rattle.table.specs.Settle.{addLevel, addLevels, begun, leftParts, settledAs, settledFrom, settlementAnswer, settling};
 
 // What step 1 comes to. The number of settled levels counts omitted ones too.
@@ -45,8 +45,8 @@ fn count_levels(text: &[u8], at: usize, end: usize) -> usize
     let mut from = at;
     let mut k = 0;
     while from <= end {
-        let stop = part_end(&text[..end], from, b'\t');
-        from = stop + 1;
+        let level = level_at(text, from, end);
+        from = level.next;
         k += 1;
     }
     k
@@ -79,6 +79,28 @@ fn add_level(rec: Record, k: usize, token: &[u8]) -> Addition
     rec.with_unit(token)
 }
 
+// Adds what a level of a path is named, at level k; one that is not named adds nothing.
+fn add_kind(rec: Record, k: usize, text: &[u8], kind: LevelKind) -> Addition
+    requires { ⌜ KindInside (now text) kind ⌝ }
+    ensures { λ r. ⌜ told r ≡ addLevel k (levelToken (now (text .entry)) kind) rec ⌝ }
+{
+    match kind {
+        LevelKind::Named(span) => {
+            let a = span.start;
+            let b = a + span.len;
+            add_level(rec, k, &text[a..b])
+        }
+        LevelKind::Omitted => Addition {
+            record: rec,
+            answer: Added::Done,
+        },
+        LevelKind::NotReached => Addition {
+            record: rec,
+            answer: Added::Done,
+        },
+    }
+}
+
 // Adds the levels of a path, which starts at `at` and ends at `end`.
 fn add_path(rec: Record, text: &[u8], at: usize, end: usize) -> Addition
     requires { ⌜ end ≤ length (now text) ⌝ }
@@ -88,14 +110,16 @@ fn add_path(rec: Record, text: &[u8], at: usize, end: usize) -> Addition
     let mut from = at;
     let mut k = 0;
     while from <= end {
-        let stop = part_end(&text[..end], from, b'\t');
-        let done = add_level(next, k, &text[from..stop]);
+        let level = level_at(text, from, end);
+        let kind = level.kind;
+        let after = level.next;
+        let done = add_kind(next, k, text, kind);
         next = done.record;
         let answer = done.answer;
         if let Added::Refused = answer {
             return done;
         }
-        from = stop + 1;
+        from = after;
         k += 1;
     }
     Addition {
@@ -172,13 +196,15 @@ fn settle_front(done: Addition, domain: &[u8], start: usize, k: usize, n: usize)
 // The levels of a row's path and then the parts of what a domain has in front of the row's domain.
 fn settle_row(text: &[u8], row: Row, domain: &[u8]) -> Settlement
     requires { ⌜ RowInside (now text) row ⌝ }
-    requires { ⌜ length (rowAt (now text) row .path) ≤ 8 ⌝ }
     requires { ⌜ row .«domain_end» - row .domain ≤ length (now domain) ⌝ }
     ensures { λ r. ⌜ settlementAnswer r ≡ settledFrom (some (rowAt (now (text .entry)) row .path ++ leftParts (now (domain .entry)) (length (now (domain .entry)) - (row .«domain_end» - row .domain)))) ⌝ }
 {
     let at = row.path;
     let end = row.path_end;
     let k = count_levels(text, at, end);
+    if 8 < k {
+        return without_record(Settled::PastUnits);
+    }
     let own = row.domain_end - row.domain;
     let start = domain.len() - own;
     let n = count_left(domain, start);
@@ -192,7 +218,6 @@ fn settle_row(text: &[u8], row: Row, domain: &[u8]) -> Settlement
 // The levels that a domain settles, by the first n rows.
 pub fn settle(text: &[u8], rows: &[usize], n: usize, domain: &[u8]) -> Settlement
     requires { ⌜ Inside (now text) (now rows) n ⌝ }
-    requires { ⌜ ((i : ℕ) → i < n → length (rowAt (now text) (placesAt (now rows) i) .path) ≤ 8) ⌝ }
     ensures { λ r. ⌜ settlementAnswer r ≡ settling (rowsAt (now (text .entry)) (now (rows .entry)) n) (now (domain .entry)) ⌝ }
 {
     match find_domain(text, rows, n, domain) {
