@@ -120,12 +120,13 @@ SHAPES = [
     b'"/S=Lee/OU=Fender Two/"@brack.tow.test', b"Ann.Lee@brack.tow.test", b"a\x80@b", b'"a\x80"@b',
     b"x" * 2046 + b"@b", b"x" * 2047 + b"@b", b'"' + b"x" * 2044 + b'"@b', b'"' + b"x" * 2045 + b'"@b',
 ]
-# The worked coding examples of documents 000 3.3.4, 001 3.3.3 and 002 3.3.4; document 01 overrides the lone parenthesis.
+# The worked coding examples of documents 000 3.4, 001 3.3.3 and 002 3.4; document 01 overrides the lone parenthesis.
 CODES = [b"'a demo.'", b"foo@bar", b'"_%"', b"@", b"(a)", b"~", b"(", b")", b"_", b"!", b"jj@seismo.css.gov", b'"a  b"@c.test', b"a   b", b" ", b"  ",
-         b"H.Hildegard@bbn.com", b"/PN=Duval/DD.Title=Manager/@Inria.ATLAS.FR"]
+         b"H.Hildegard@bbn.com", b"/PN=Duval/DD.Title=Manager/@Inria.ATLAS.FR", b"/PN=Duval/DD.Title=Manager/@FR.PTT.Inria"]
 DECODES = [b"'a demo.'", b"foo(a)bar", b"(q)(u)(p)(q)", b"(a)", b"(A)", b"(l)a(r)", b"(126)", b"(", b"(l)", b"(128)", b"(127)", b"(000)", b"(12)", b"(1234)",
            b"(097)", b"(x)", b"()", b")", b"a)", b"(a", b"((a)", b"(a))", b"(040)a(041)", b"(040)(a)", b"(999)", b"(a)(b", b"(12a)", b"", b"(032)(032)",
-           b"jj(a)seismo.css.gov", b"/PN=Duval/DD.Title=Manager/(a)Inria.ATLAS.FR", b"(Q)(U)(P)(B)(L)(R)"]
+           b"jj(a)seismo.css.gov", b"/PN=Duval/DD.Title=Manager/(a)Inria.ATLAS.FR",
+           b"/PN=Duval/DD.Title=Manager/(a)FR.PTT.Inria", b"(Q)(U)(P)(B)(L)(R)"]
 TAILS = [(b"tow.test", b"undertow.test"), (b"brack.tow.test", b"TOW.test"), (b"a.b", b"a.b"), (b"..", b"."), (b"x.", b"y."), (b"", b""), (b"a", b""),
          (b"a", b"b"), (b"x.a.b", b"y.A.B"), (b".a", b"a"), (b"a.", b"a"), (b"\x00.\xff", b"\xff"), (b"a.b.c", b"b.c"), (b"b.c", b"a.b.c")]
 

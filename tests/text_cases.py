@@ -10,28 +10,28 @@ UNITS = [b"u1", b"u2", b"u3", b"u4"]
 
 # The worked examples of documents 000 (RFC 1327), 001 (RFC 987) and 002 (RFC 2156), with their sections.
 NAMES = [
-    b"Marshall.Rose", b"M.T.Rose", b"Marshall.M.T.Rose",  # 000 4.2.3, 001 4.1.2, 002 4.2.3
+    b"Marshall.Rose", b"M.T.Rose", b"Marshall.M.T.Rose",  # 000 4.2.1, 001 4.1.2, 002 4.1.2
     b"J.Linnimouth",  # 000 4.3.1, 001 4.2.1, 002 4.3.1
-    b"Duval", b"John.Smith",  # 000 4.4, 001 appendix E
+    b"Duval", b"John.Smith",  # 000 and 002 4.4.2, 001 appendix E
     b"Marshall.",  # document 01
 ]
 TEXTS = [
     b"/I=J/S=Linnimouth/GQ=5/",  # 000 and 002 4.3.1
     b"/PN=J.Linnimouth/GQ=5/",  # 001 4.2.1: document 01 refuses PN beside GQ
     b"/S=XX/O=YY/ADMD=A/C=NN/", b"/S=XX/O=YY/",  # 000 and 002 4.3.5
-    b"/PN=Duval/DD.Title=Manager/",  # 000 and 002 4.4
-    b"/C=UK/ADMD=BT/PRMD=AC/RFC-822=jj(a)seismo.css.gov/",  # 000 4.4
-    b"/RFC-822=jj(a)seismo.css.gov/PRMD=AC/ADMD=BT/C=GB/",  # 002 4.4
+    b"/PN=Duval/DD.Title=Manager/",  # 000 and 002 4.4.2
+    b"/C=UK/ADMD=BT/PRMD=AC/RFC-822=jj(a)seismo.css.gov/",  # 000 4.4.2, 001 4.3
+    b"/RFC-822=jj(a)seismo.css.gov/PRMD=AC/ADMD=BT/C=GB/",  # 002 4.4.2
     b"/S=Support/o=sales/", b"/S=renseignements/o=Region Parisienne/",  # 002 4.3.5
     b"/DD.cap=20100/DD.ph1=Via Larga 11/DD.city=Milano/S=Rossi/",  # 002 4.3.5
     b"/G=Andy/S=Wharol/O=MMNY",  # 002 4.3.5: no last slash, so no record text here
-    b"/S=Dietrich/O=Siemens/ADMD=DBP/C=DE/",  # 000 and 002 4.7.3
+    b"/S=Dietrich/O=Siemens/ADMD=DBP/C=DE/",  # 000 and 002 4.7.3.2
     b"/C=US/O=Xerox/PN=John.Smith/",  # 001 appendix E
-    b"/S=Eppenberger/OU=verw/O=switch/PRMD=SWITCH/ADMD=ARCOM/C=CH/",  # 002 5.2
-    b"/RFC-822=H.Hildegard(a)bbn.com/OU=cs/O=ucl/PRMD=uk.ac/ADMD=gold 400/C=gb/",  # 002 5.3
-    b"/I=j/S=nosuchuser/OU=dle/O=cambridge/PRMD=DGC/ADMD=GOLD 400/C=GB/",  # 002 5.3
-    b"/CN=yen*{165}/",  # 002 4.1: Teletex and common names are not in scope
-    b"/O=/",  # 002 5.4: an empty value
+    b"/S=Eppenberger/OU=verw/O=switch/PRMD=SWITCH/ADMD=ARCOM/C=CH/",  # 002 5.3.4.2
+    b"/RFC-822=H.Hildegard(a)bbn.com/OU=cs/O=ucl/PRMD=uk.ac/ADMD=gold 400/C=gb/",  # 002 5.3.8.4
+    b"/I=j/S=nosuchuser/OU=dle/O=cambridge/PRMD=DGC/ADMD=GOLD 400/C=GB/",  # 002 5.3.8.4
+    b"/CN=yen*{165}/",  # 002 4.1.1: Teletex and common names are not in scope
+    b"/O=/",  # 002 appendix B: an empty value
 ]
 # Open points, each side.
 POINTS = [
