@@ -6,27 +6,20 @@ the repository's root after a change to the cases; `git diff` then shows what mo
 import random
 import re
 
-from rules import ATOM, PRINTABLE, is_text
+import rules
+from rules import ATOM, PRINTABLE, is_text, well_spaced
 
 LETTERS = b"ABCDEFGHIJKLMNOPQRSTUVWXYZabcdefghijklmnopqrstuvwxyz"
 DIGITS = b"0123456789"
 LABEL = LETTERS + DIGITS + b"-"
 SINGLE = "caposgiq"
-BOUND = {"a": 16, "p": 16, "o": 64, "u": 32, "s": 40, "g": 16, "i": 5, "q": 3}
+KEY = {"c": "C", "a": "ADMD", "p": "PRMD", "o": "O", "u": "OU", "s": "S", "g": "G", "i": "I", "q": "GQ"}
 ROOM = {"single": 64, "u": 32, "type": 8, "value": 128}
 LARGEST = 2**64 - 1
 
 
-def well_spaced(s):
-    return not (s.startswith(b" ") or s.endswith(b" ") or b"  " in s)
-
-
 def keeps_rule(kind, s):
-    if kind == "c":
-        return bool(re.fullmatch(rb"[A-Za-z]{2}|[0-9]{3}", s))
-    if kind == "a" and s == b" ":
-        return True
-    return is_text(s) and len(s) <= BOUND[kind]
+    return rules.keeps_rule(KEY[kind], s)
 
 
 def is_dd(kind, value):
@@ -192,7 +185,8 @@ SAMPLE = {
 
 
 def bounds(c):
-    for kind, most in BOUND.items():
+    for kind in "apousgiq":
+        most = rules.BOUND[KEY[kind]]
         for n in (0, 1, most - 1, most, most + 1):
             c.whole(*[a for a in BASE if a[0] != kind], (kind, b"x" * n))
     for country in (b"", b"X", b"XY", b"xy", b"XYZ", b"X1", b"12", b"123", b"1234", b"12X", b"X-", b"  "):

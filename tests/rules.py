@@ -22,8 +22,12 @@ def quote(s):
     return re.sub(rb"([/=])", rb"$\1", s)
 
 
+def well_spaced(s):
+    return not (s.startswith(b" ") or s.endswith(b" ") or b"  " in s)
+
+
 def is_text(s):
-    return s != b"" and all(b in PRINTABLE for b in s) and not (s[:1] == b" " or s[-1:] == b" " or b"  " in s)
+    return s != b"" and all(b in PRINTABLE for b in s) and well_spaced(s)
 
 
 def keeps_rule(key, s):
