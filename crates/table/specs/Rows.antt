@@ -43,12 +43,13 @@ RowReading s from end tag most (line.RowRead.the-variants.Row p) = RowFound s fr
 RowReading s from end tag most line.RowRead.the-variants.Bad =
     lines.hasTag tag (split 9 (between s from end)) && lines.isRow most (lines.rowOf (split 9 (between s from end))) ≡ false
 
--- The places of a row are in order, and inside the text.
+-- The places of a row are in order, and inside the text; its domain is no longer than any may be.
 pub record RowInside (s : List ℕ) (p : line.Row.Row) : Type 0 where
   pub domain : p .domain ≤ p .«domain_end»
   pub apart : p .«domain_end» ≤ p .path
   pub path : p .path ≤ p .«path_end»
   pub within : p .«path_end» ≤ length s
+  pub short : p .«domain_end» - p .domain ≤ lines.longestGatewayDomain
 
 -- the places of row i in a list of numbers, four for each row
 unfoldable pub placesAt : List ℕ → ℕ → line.Row.Row

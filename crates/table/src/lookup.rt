@@ -103,7 +103,7 @@ fn is_level(text: &[u8], kind: LevelKind, levels: &[u8], ends: &[usize], k: usiz
 
 // How many levels a path has, which starts at `at` and ends at `end`, if it begins the record's levels from k on, `left` of them;
 // else 0.
-fn match_path(
+pub fn match_path(
     text: &[u8],
     at: usize,
     end: usize,

@@ -38,7 +38,7 @@ pub struct Settlement {
 }
 
 // How many levels a path has, which starts at `at` and ends at `end`.
-fn count_levels(text: &[u8], at: usize, end: usize) -> usize
+pub fn count_levels(text: &[u8], at: usize, end: usize) -> usize
     requires { ⌜ end ≤ length (now text) ⌝ }
     ensures { λ r. ⌜ r ≡ length (fieldsAt (now (text .entry)) at end) ⌝ }
 {
@@ -102,7 +102,7 @@ fn add_kind(rec: Record, k: usize, text: &[u8], kind: LevelKind) -> Addition
 }
 
 // Adds the levels of a path, which starts at `at` and ends at `end`.
-fn add_path(rec: Record, text: &[u8], at: usize, end: usize) -> Addition
+pub fn add_path(rec: Record, text: &[u8], at: usize, end: usize) -> Addition
     requires { ⌜ end ≤ length (now text) ⌝ }
     ensures { λ r. ⌜ told r ≡ addLevels 0 (fieldsAt (now (text .entry)) at end) (begun rec) ⌝ }
 {

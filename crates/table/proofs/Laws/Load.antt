@@ -7,23 +7,25 @@ use mathlib.Core.List.{List, [], _∷_}
 use Prim.Native.Nat.{ℕ, _+_, _-_, _≤_, _<_}
 use native.Mathlib.Numerals.{add-one}
 use native.Mathlib.Omega.{arith}
-use borrow.Author.Tests.{le-leb, le-ltb, lt-leb, lt-ltb, ltb-false, ltb-true}
-use lib.Dec.{ltb}
+use borrow.Author.Tests.{le-leb, le-ltb, leb-true, lt-leb, lt-ltb, ltb-false, ltb-true}
+use lib.Dec.{leb, ltb}
 use lib.ListN.{length, getD, take, drop, drop-of-length-le, length-drop}
 use Rattle.chars.specs.Lists.{all, nonEmpty}
 use Rattle.chars.specs.Case.{agree, equalText}
 use Rattle.chars.specs.Parts.{run, split}
-use Rattle.chars.proofs.Laws.Lists.{and-left, and-right, by-test, true-not-false}
+use Rattle.chars.proofs.Laws.Lists.{and-left, and-right, and-three, by-test, true-not-false}
 use Rattle.chars.proofs.Laws.Case.{equal-path}
 use Rattle.chars.proofs.Laws.Parts.{split-end, split-next, split-some}
 use Rattle.chars.proofs.Laws.Seq.{some-length}
 use Rattle.table.specs.Table.{Row, Table, Token}
-use Rattle.table.specs.Lines.{Line, Loaded, badGateway, badRow, gatewayTable, hasTag, isGatewayLine, isNewRow, isRow, linesOf, loadedFrom, longestGatewayDomain, longestRowDomain, longestTable, malformed, mostRows, readLines, readRows, rowOf, sameDomain, samePath, tableLines, withRow}
+use Rattle.table.specs.Lines.{Line, Loaded, badGateway, badRow, gatewayTable, hasTag, isGatewayLine, isNewRow, isPath, isRow, linesOf, loadedFrom, longestGatewayDomain, longestRowDomain, longestTable, malformed, mostRows, readLines, readRows, rowOf, sameDomain, samePath, tableLines, withRow}
 use Rattle.table.specs.Load.{Joined, Kept, Loading, bareTable, lineAt, linesFrom, loadAnswer, rowsSize}
 use Rattle.table.specs.Rows.{RowFound, RowInside, between, putAt, rowAt, rowsAt, rowsFrom, tableAt}
 use Rattle.table.specs.declared.line as line
 use Rattle.table.specs.declared.load as load
 use Rattle.table.specs.declared.load.TableRead.the-variants.{Table as TableFound, Malformed}
+use Rattle.mailaddr.specs.Domain.{isDomain}
+use Rattle.table.proofs.Laws.Fields.{between-length}
 use Rattle.table.proofs.Laws.Rows.{inside-none, inside-put, length-rows, rows-put}
 
 -- ---- a line by its tag
@@ -64,9 +66,26 @@ module _ (t : Table) (fs : List Token) where
 
 -- ---- a line added
 
+-- a row's domain is as short as its rule says
+row-short : (most : ℕ) (r : Row) → isRow most r ≡ true → length (r .domain) ≤ most
+unfolding isRow
+row-short most r h = leb-true (length (r .domain)) most (and-three (leb (length (r .domain)) most) (isDomain (r .domain)) (isPath (r .path)) h .0)
+
 -- the row that was found in a line is inside the text
-pub found-inside : {s : List ℕ} {from end tag most : ℕ} {p : line.Row.Row} → RowFound s from end tag most p → end ≤ length s → RowInside s p
-found-inside f e = record { domain = f .domain; apart = omega arith; path = f .path; within = omega arith }
+pub found-inside : {s : List ℕ} {from end tag most : ℕ} {p : line.Row.Row} → RowFound s from end tag most p → end ≤ length s → most ≤ longestGatewayDomain → RowInside s p
+unfolding rowAt
+found-inside {s} {from} {end} {tag} {most} {p} f e m =
+    let r = rowOf (split 9 (between s from end)) in
+    let l = row-short most r (and-right (hasTag tag (split 9 (between s from end))) (isRow most r) (f .accepted)) in
+    let q : length (between s (p .domain) (p .«domain_end»)) ≡ length (r .domain) = ap (λ (x : Row). length (x .domain)) (f .row) in
+    let w : p .«domain_end» ≤ length s = omega (arith, f .apart, f .path, f .ends) in
+    record {
+      domain = f .domain;
+      apart = omega arith;
+      path = f .path;
+      within = omega arith;
+      short = omega (arith, l, q, m, between-length s (p .domain) (p .«domain_end») (f .domain) w);
+    }
 
 module _ (s ds rs : List ℕ) (t : load.Loaded.Loaded) (from end : ℕ) where
   -- there are as many rows as may be
@@ -106,7 +125,7 @@ module _ (s ds rs : List ℕ) (t : load.Loaded.Loaded) (from end : ℕ) where
         record {
           good = g;
           table = rw (and-left (hasTag 68 (split 9 (between s from end))) (isRow longestRowDomain (rowOf (split 9 (between s from end)))) (f .accepted), rows-put s ds (t .«to_path») p (omega arith), f .row);
-          kept = record { gateway = k .gateway; paths = inside-put (k .paths) (omega arith) (found-inside f e); domains = k .domains; most = omega arith };
+          kept = record { gateway = k .gateway; paths = inside-put (k .paths) (omega arith) (found-inside f e (omega arith)); domains = k .domains; most = omega arith };
         }
 
     pub join-path : t .«to_path» + t .«to_domain» < mostRows → length rs ≡ rowsSize
@@ -120,7 +139,7 @@ module _ (s ds rs : List ℕ) (t : load.Loaded.Loaded) (from end : ℕ) where
         record {
           good = g;
           table = rw (no-domain (split 9 (between s from end)) n (f .accepted), rows-put s rs (t .«to_domain») p (omega arith), f .row);
-          kept = record { gateway = k .gateway; paths = k .paths; domains = inside-put (k .domains) (omega arith) (found-inside f e); most = omega arith };
+          kept = record { gateway = k .gateway; paths = k .paths; domains = inside-put (k .domains) (omega arith) (found-inside f e (omega arith)); most = omega arith };
         }
 
 -- ---- the lines that are left

@@ -44,7 +44,7 @@ found-2 c = rw (c .row2 .given .1) at (c .before .before .read-row2 .ensures)
 has-domain-requires : tie.Need-has-domain-requires
 has-domain-requires c κs =
     let p = c .before .before .before .before .before .before .before .before .before .pre in
-    (p .1 .1 .0 .paths, found-inside (found (c .before .before)) (p .1 .1 .1 .1))
+    (p .1 .1 .0 .paths, found-inside (found (c .before .before)) (p .1 .1 .1 .1) (omega arith))
 
 same-length : tie.Need-same-length
 same-length c = search needs
@@ -90,7 +90,7 @@ enum-known-row-2 c = search needs
 has-path-requires : tie.Need-has-path-requires
 has-path-requires c κs =
     let p = c .before .before .before .before .before .before .before .before .before .before .before .before .pre in
-    (p .1 .1 .0 .domains, found-inside (found-2 (c .before .before)) (p .1 .1 .1 .1))
+    (p .1 .1 .0 .domains, found-inside (found-2 (c .before .before)) (p .1 .1 .1 .1) (omega arith))
 
 same-length-3 : tie.Need-same-length-3
 same-length-3 c = search needs

@@ -49,7 +49,7 @@ load-rows-requires c κs =
     let row = c .before .before .before in
     let went = row .before .before .before in
     let start = went .before .before .before .before .before .before in
-    (start .pre .0, (start .pre .1, (found-inside (found row) (omega (arith, ends went)), omega (arith, ends went))))
+    (start .pre .0, (start .pre .1, (found-inside (found row) (omega (arith, ends went)) (omega arith), omega (arith, ends went))))
 
 enum-told : tie.Need-enum-told
 enum-told c = search needs
