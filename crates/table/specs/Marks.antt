@@ -11,10 +11,17 @@ use Rattle.table.specs.Rows.{placesAt, putAt}
 use Rattle.table.specs.declared.line as line
 use Rattle.table.specs.declared.rows.Key.{Key}
 
--- the mark of the bytes that made the mark h, with these behind them
+-- what every mark is below
+abbrev pub markLimit : ℕ
+markLimit = 4294967296
+
+-- the mark of the bytes that made the mark h, with one more behind them, and with more
+abbrev pub markWith : ℕ → ℕ → ℕ
+markWith h b = (h * 16777619 + b) % markLimit
+
 unfoldable pub markFrom : ℕ → List ℕ → ℕ
 markFrom h [] = h
-markFrom h (b ∷ s) = markFrom ((h * 16777619 + b) % 4294967296) s
+markFrom h (b ∷ s) = markFrom (markWith h b) s
 
 -- the mark of a text, letter case aside
 unfoldable pub markOf : List ℕ → ℕ
@@ -35,7 +42,7 @@ unfoldable pub putMarked : List ℕ → ℕ → line.Row.Row → ℕ → List �
 unfolding putAt
 putMarked ns i p mark = set (putAt ns i p) (marksAt + i) mark
 
--- What it comes to to put a row behind the first n unless one of them has its key: whether it is new, and the list where it is.
+-- Putting a row behind the first n, unless one of them has its key: whether it was new, and the list if it was.
 pub record Placed (k : Key) (s ns : List ℕ) (n : ℕ) (p : line.Row.Row) (new : Bool) (ms : List ℕ) : Type 0 where
   pub answers : new ≡ isNewKey k s ns n p
   pub rows : new ≡ true → ms ≡ putMarked ns n p (markOf (keyText k s p))

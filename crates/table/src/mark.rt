@@ -8,7 +8,7 @@ ghost use lib.Dec.{eqb};
 ghost use Rattle.chars.specs.Lists.{all};
 ghost use Rattle.table.specs.Marks.{markOf};
 
-// How much a mark grows with each byte, and what it stays below.
+// What a mark is multiplied by with each byte, and what it stays below.
 const MARK_FACTOR: usize = 16777619;
 
 const MARK_LIMIT: usize = 4294967296;
@@ -19,7 +19,7 @@ fn wide(b: u8) -> usize
     b as usize
 }
 
-// The mark of a text: its bytes, letter case aside, as the digits of a number, of which the low 32 bits are kept.
+// The mark of a text: its bytes, letter case aside, as the digits of a number, of which the lowest 32 bits are kept.
 pub fn mark_of(s: &[u8]) -> usize
     ensures { λ r. ⌜ r ≡ markOf (now (s .entry)) ⌝ }
 {

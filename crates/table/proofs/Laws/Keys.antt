@@ -1,14 +1,13 @@
 -- Laws of keys: a row's key is inside the text, two rows have one where its texts agree, and when a key is new among rows.
 -- Assumes nothing.
 use mathlib.Core.Path.{_≡_, refl, sym, ap, _∙_}
-use mathlib.Core.Bool.{Bool, true, false, not}
+use mathlib.Core.Bool.{true, false, not}
 use mathlib.Core.List.{List}
-use Prim.Native.Nat.{ℕ, _+_, _≤_, _<_}
+use Prim.Native.Nat.{ℕ, _≤_, _<_}
 use native.Mathlib.Nat.{zero-add}
 use native.Mathlib.Omega.{arith}
 use lib.ListN.{length}
 use Rattle.chars.specs.Case.{sameText}
-use Rattle.table.specs.Table.{Row}
 use Rattle.table.specs.Keys.{isNewKey, keyPlace, keyText, sameKey}
 use Rattle.table.specs.Lines.{sameDomain, samePath}
 use Rattle.table.specs.Rows.{Inside, RowInside, between, placesAt, rowAt, rowsAt}

@@ -3,7 +3,7 @@
 use mathlib.Core.Path.{_≡_, sym, ap}
 use mathlib.Core.Bool.{true, not}
 use mathlib.Core.List.{List}
-use Prim.Native.Nat.{ℕ, _+_, _*_, _%_, _≤_, _<_}
+use Prim.Native.Nat.{ℕ, _+_, _≤_, _<_}
 use native.Mathlib.Numerals.{add-one}
 use native.Mathlib.Omega.{arith}
 use borrow.Author.Tests.{eq-eqb}
@@ -15,7 +15,7 @@ use Rattle.chars.specs.Case.{foldCase, foldText, sameText}
 use Rattle.chars.proofs.Laws.Lists.{all-at, by-test, true-not-false}
 use Rattle.chars.proofs.Laws.Case.{same-path}
 use Rattle.table.specs.Keys.{isNewKey, keyText}
-use Rattle.table.specs.Marks.{Marked, markFrom, markOf, marksAt}
+use Rattle.table.specs.Marks.{Marked, markFrom, markOf, markWith, marksAt}
 use Rattle.table.specs.Rows.{Inside, RowInside, placesAt}
 use Rattle.table.specs.declared.line as line
 use Rattle.table.specs.declared.rows.Key.{Key}
@@ -29,7 +29,7 @@ same-mark s t h = ap (markFrom 0) (same-path s t h)
 
 -- what a loop has left
 pub mark-step : (h : ℕ) (s : List ℕ) (i : ℕ) → i < length s
-    → markFrom h (foldText (drop i s)) ≡ markFrom ((h * 16777619 + foldCase (getD s i 0)) % 4294967296) (foldText (drop (i + 1) s))
+    → markFrom h (foldText (drop i s)) ≡ markFrom (markWith h (foldCase (getD s i 0))) (foldText (drop (i + 1) s))
 unfolding markFrom foldText
 mark-step h s i l = rw (add-one, drop-cons s i 0)
 

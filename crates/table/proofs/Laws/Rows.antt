@@ -114,6 +114,7 @@ places-mark ns i mark j h =
       getD-set-other ns k (j * 4 + 3) mark 0 (λ e. omega arith),
     )
 
+-- the row's places and mark stand there, and those before it stay
 module _ (ns : List ℕ) (i : ℕ) (p : line.Row.Row) (mark : ℕ) where
   length-put : length (putMarked ns i p mark) ≡ length ns
   unfolding putMarked putAt

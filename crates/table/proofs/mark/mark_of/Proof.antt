@@ -2,19 +2,18 @@
 -- which is below its limit.
 -- Assumes nothing.
 use mathlib.Core.Path.{_≡_, refl, sym, _∙_}
-use Prim.Native.Nat.{ℕ, _+_, _-_, _*_, _%_, _≤_, _<_}
-use native.Mathlib.Nat.{mod-lt}
+use Prim.Native.Nat.{_-_, _≤_, _<_}
 use native.Mathlib.Omega.{arith}
 use borrow.Author.Needs.{needs}
 use lib.ListN.{length, getD, drop}
 use Rattle.chars.specs.Case.{foldCase, foldText}
-use Rattle.table.specs.Marks.{markFrom, markOf}
+use Rattle.table.specs.Marks.{markFrom, markLimit, markOf}
 use Rattle.table.proofs.Laws.Marks.{mark-end, mark-step}
 use Rattle.table.proofs.mark.mark_of.Statement.{statement}
 use Rattle.table.proofs.mark.mark_of.Tie as tie
 
 abbrev Inv-loop : tie.InvT-loop
-Inv-loop s mark₀ i₀ mark i = (i ≤ length s) × (mark < 4294967296) × (markOf s ≡ markFrom mark (foldText (drop i s)))
+Inv-loop s mark₀ i₀ mark i = (i ≤ length s) × (mark < markLimit) × (markOf s ≡ markFrom mark (foldText (drop i s)))
 
 abbrev μ-loop : tie.MeasureT-loop
 μ-loop s mark₀ i₀ mark i = length s - i
