@@ -1,7 +1,9 @@
 pub mod Fields
 pub mod FirstBad
+pub mod Keys
 pub mod Load
 pub mod Lookup
+pub mod Marks
 pub mod Paths
 pub mod Rows
 pub mod Settle

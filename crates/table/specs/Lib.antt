@@ -1,9 +1,11 @@
 pub mod FirstBad
+pub mod Keys
 pub mod Levels
 pub mod Lines
 pub mod Load
 pub mod Looked
 pub mod Lookup
+pub mod Marks
 pub mod Rows
 pub mod Settle
 pub mod Table

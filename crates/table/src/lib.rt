@@ -4,5 +4,6 @@ pub mod level;
 pub mod line;
 pub mod load;
 pub mod lookup;
+pub mod mark;
 pub mod rows;
 pub mod settle;

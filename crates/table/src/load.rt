@@ -4,16 +4,15 @@ use crate::line::LONGEST_ROW_DOMAIN;
 use crate::line::Row;
 use crate::line::RowRead;
 use crate::line::read_row;
+use crate::rows::Key;
 use crate::rows::MOST_ROWS;
-use crate::rows::has_domain;
-use crate::rows::has_path;
-use crate::rows::put_row;
+use crate::rows::add_if_new;
 use chars::parts::part_end;
 ghost use mathlib.Core.Path.{_≡_};
 ghost use Prim.Native.Nat.{_≤_};
 ghost use lib.ListN.{length};
 ghost use Rattle.table.specs.Lines.{loadedFrom, readRows};
-ghost use Rattle.table.specs.Load.{Adding, Kept, Loading, bareTable, linesFrom, rowsSize};
+ghost use Rattle.table.specs.Load.{Adding, Kept, Loading, addedIf, bareTable, linesFrom, rowsSize};
 ghost use Rattle.table.specs.Rows.{RowInside, rowAt, tableAt};
 
 pub const LONGEST_TABLE: usize = 65536;
@@ -34,6 +33,17 @@ pub enum TableRead {
 pub enum RowAdded {
     Added(Loaded),
     Bad,
+}
+
+// The answer for a row that is new, or is not.
+fn added(is_new: bool, table: Loaded) -> RowAdded
+    ensures { λ r. ⌜ r ≡ addedIf «is_new» table ⌝ }
+{
+    if is_new {
+        RowAdded::Added(table)
+    } else {
+        RowAdded::Bad
+    }
 }
 
 // Adds the row of the line that starts at `from` and ends at `end` to the rows of its tag.
@@ -59,25 +69,17 @@ fn add_row(
     }
     match read_row(text, from, end, b'D', LONGEST_ROW_DOMAIN) {
         RowRead::Row(row) => {
-            if has_domain(text, to_path, d, row) {
-                return RowAdded::Bad;
-            }
-            put_row(to_path, d, row);
             let mut next = table;
             next.to_path = d + 1;
-            return RowAdded::Added(next);
+            return added(add_if_new(text, to_path, d, row, Key::Domain), next);
         }
         RowRead::Bad => {}
     }
     match read_row(text, from, end, b'R', LONGEST_ROW_DOMAIN) {
         RowRead::Row(row) => {
-            if has_path(text, to_domain, r, row) {
-                return RowAdded::Bad;
-            }
-            put_row(to_domain, r, row);
             let mut next = table;
             next.to_domain = r + 1;
-            RowAdded::Added(next)
+            added(add_if_new(text, to_domain, r, row, Key::Path), next)
         }
         RowRead::Bad => RowAdded::Bad,
     }

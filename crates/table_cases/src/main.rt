@@ -17,15 +17,14 @@ use print::print_malformed;
 use print::print_rows;
 use table::load::TableRead;
 use table::load::load;
+use table::rows::ROWS_SIZE;
 ghost use Prim.Native.Nat.{_<_, _≤_};
 ghost use lib.ListN.{length};
 
-// Standard input, at most; a table with one byte too many; the numbers of 512 rows.
+// Standard input, at most; a table with one byte too many.
 const ROOM: usize = 524288;
 
 const TABLE_ROOM: usize = 65537;
-
-const ROWS_ROOM: usize = 2048;
 
 // Reads the table of a name, which counts as empty where it cannot be opened.
 fn read_table(name: &[u8], buf: &mut [u8]) -> usize
@@ -45,8 +44,8 @@ fn run_loaded(s: &[u8], at: usize, text: &[u8]) -> usize
     requires { ⌜ length (now s) ≤ 524288 ⌝ }
     ensures { λ r. ⌜ at ≤ r ⌝ }
 {
-    let mut to_path = [0usize; ROWS_ROOM];
-    let mut to_domain = [0usize; ROWS_ROOM];
+    let mut to_path = [0usize; ROWS_SIZE];
+    let mut to_domain = [0usize; ROWS_SIZE];
     match load(text, &mut to_path, &mut to_domain) {
         TableRead::Table(t) => {
             print_rows(t.to_path, t.to_domain);

@@ -19,14 +19,17 @@ use Rattle.chars.proofs.Laws.Parts.{split-end, split-next, split-some}
 use Rattle.chars.proofs.Laws.Seq.{some-length}
 use Rattle.table.specs.Table.{Row, Table, Token}
 use Rattle.table.specs.Lines.{Line, Loaded, badGateway, badRow, gatewayTable, hasTag, isGatewayLine, isNewRow, isPath, isRow, linesOf, loadedFrom, longestGatewayDomain, longestRowDomain, longestTable, malformed, mostRows, readLines, readRows, rowOf, sameDomain, samePath, tableLines, withRow}
-use Rattle.table.specs.Load.{Joined, Kept, Loading, bareTable, lineAt, linesFrom, loadAnswer, rowsSize}
-use Rattle.table.specs.Rows.{RowFound, RowInside, between, putAt, rowAt, rowsAt, rowsFrom, tableAt}
+use Rattle.table.specs.Keys.{keyText}
+use Rattle.table.specs.Load.{Adding, Joined, Kept, Loading, addedIf, bareTable, lineAt, linesFrom, loadAnswer, rowsSize}
+use Rattle.table.specs.Marks.{Placed, markOf, putMarked}
+use Rattle.table.specs.Rows.{RowFound, RowInside, between, rowAt, rowsAt, rowsFrom, tableAt}
 use Rattle.table.specs.declared.line as line
 use Rattle.table.specs.declared.load as load
 use Rattle.table.specs.declared.load.TableRead.the-variants.{Table as TableFound, Malformed}
+use Rattle.table.specs.declared.rows.Key.the-variants.{Domain, Path}
 use Rattle.mailaddr.specs.Domain.{isDomain}
 use Rattle.table.proofs.Laws.Fields.{between-length}
-use Rattle.table.proofs.Laws.Rows.{inside-none, inside-put, length-rows, rows-put}
+use Rattle.table.proofs.Laws.Rows.{inside-none, inside-put, length-rows, marked-none, marked-put, rows-put}
 
 -- ---- a line by its tag
 
@@ -98,12 +101,12 @@ module _ (s ds rs : List ℕ) (t : load.Loaded.Loaded) (from end : ℕ) where
     unfolding badRow tableAt lineAt
     bad-new = rw (length-rows s ds (t .«to_path»), length-rows s rs (t .«to_domain»), lt-leb mostRows (t .«to_path» + t .«to_domain») h)
 
-    pub bad-domain : {p : line.Row.Row} → RowFound s from end 68 longestRowDomain p
+    bad-domain : {p : line.Row.Row} → RowFound s from end 68 longestRowDomain p
         → badRow (tableAt s ds rs t) (lineAt s from end) ≡ not (all (λ q. not (sameDomain (rowAt s p) q)) (rowsAt s ds (t .«to_path»)))
     unfolding tableAt
     bad-domain f = bad-new ∙ ap not (new-domain (tableAt s ds rs t) (split 9 (between s from end)) (f .accepted)) ∙ rw (f .row)
 
-    pub bad-path : {p : line.Row.Row} → accepts 68 longestRowDomain (split 9 (between s from end)) ≡ false
+    bad-path : {p : line.Row.Row} → accepts 68 longestRowDomain (split 9 (between s from end)) ≡ false
         → RowFound s from end 82 longestRowDomain p
         → badRow (tableAt s ds rs t) (lineAt s from end) ≡ not (all (λ q. not (samePath (rowAt s p) q)) (rowsAt s rs (t .«to_domain»)))
     unfolding tableAt
@@ -114,33 +117,62 @@ module _ (s ds rs : List ℕ) (t : load.Loaded.Loaded) (from end : ℕ) where
         → badRow (tableAt s ds rs t) (lineAt s from end) ≡ true
     bad-neither g h = bad-new ∙ ap not (new-neither (tableAt s ds rs t) (split 9 (between s from end)) g h)
 
-  module _ (k : Kept s ds rs t) {p : line.Row.Row} where
-    -- the row joins those of its tag
-    pub join-domain : t .«to_path» + t .«to_domain» < mostRows → length ds ≡ rowsSize → RowFound s from end 68 longestRowDomain p → end ≤ length s
-        → badRow (tableAt s ds rs t) (lineAt s from end) ≡ false
-        → Joined s (tableAt s ds rs t) from end (putAt ds (t .«to_path») p) rs
+  -- the row joins those of its tag where it is new, and the line is bad where it is not
+  module _ (k : Kept s ds rs t) (h : t .«to_path» + t .«to_domain» < mostRows) (e : end ≤ length s) {p : line.Row.Row} where
+    join-domain : length ds ≡ rowsSize → RowFound s from end 68 longestRowDomain p → badRow (tableAt s ds rs t) (lineAt s from end) ≡ false
+        → Joined s (tableAt s ds rs t) from end (putMarked ds (t .«to_path») p (markOf (keyText Domain s p))) rs
         (record { gateway = t .gateway; «to_path» = t .«to_path» + 1; «to_domain» = t .«to_domain» })
     unfolding tableAt withRow
-    join-domain h l f e g =
+    join-domain l f g =
+        let n = t .«to_path» in
+        let few : n < mostRows = omega arith in
+        let mark = markOf (keyText Domain s p) in
         record {
           good = g;
-          table = rw (and-left (hasTag 68 (split 9 (between s from end))) (isRow longestRowDomain (rowOf (split 9 (between s from end)))) (f .accepted), rows-put s ds (t .«to_path») p (omega arith), f .row);
-          kept = record { gateway = k .gateway; paths = inside-put (k .paths) (omega arith) (found-inside f e (omega arith)); domains = k .domains; most = omega arith };
+          table = rw (and-left (hasTag 68 (split 9 (between s from end))) (isRow longestRowDomain (rowOf (split 9 (between s from end)))) (f .accepted), rows-put s ds n p mark few l, f .row);
+          kept =
+              record {
+                gateway = k .gateway;
+                paths = inside-put s ds n p mark few l (k .paths) (found-inside f e (omega arith));
+                domains = k .domains;
+                domainMarks = marked-put Domain s ds n p few l (k .domainMarks);
+                pathMarks = k .pathMarks;
+                most = omega arith;
+              };
         }
 
-    pub join-path : t .«to_path» + t .«to_domain» < mostRows → length rs ≡ rowsSize
-        → accepts 68 longestRowDomain (split 9 (between s from end)) ≡ false
-        → RowFound s from end 82 longestRowDomain p → end ≤ length s
-        → badRow (tableAt s ds rs t) (lineAt s from end) ≡ false
-        → Joined s (tableAt s ds rs t) from end ds (putAt rs (t .«to_domain») p)
-        (record { gateway = t .gateway; «to_path» = t .«to_path»; «to_domain» = t .«to_domain» + 1 })
-    unfolding tableAt withRow
-    join-path h l n f e g =
-        record {
-          good = g;
-          table = rw (no-domain (split 9 (between s from end)) n (f .accepted), rows-put s rs (t .«to_domain») p (omega arith), f .row);
-          kept = record { gateway = k .gateway; paths = k .paths; domains = inside-put (k .domains) (omega arith) (found-inside f e (omega arith)); most = omega arith };
-        }
+    pub adding-domain : length ds ≡ rowsSize → RowFound s from end 68 longestRowDomain p → (new : Bool) {ms : List ℕ} → Placed Domain s ds (t .«to_path») p new ms
+        → Adding s (tableAt s ds rs t) from end (addedIf new (record { gateway = t .gateway; «to_path» = t .«to_path» + 1; «to_domain» = t .«to_domain» })) ms rs
+    adding-domain l f true q = rw (q .rows refl) (join-domain l f (bad-domain h f ∙ ap not (sym (q .answers))))
+    adding-domain l f false q = bad-domain h f ∙ ap not (sym (q .answers))
+
+    module _ (none : accepts 68 longestRowDomain (split 9 (between s from end)) ≡ false) where
+      join-path : length rs ≡ rowsSize → RowFound s from end 82 longestRowDomain p → badRow (tableAt s ds rs t) (lineAt s from end) ≡ false
+          → Joined s (tableAt s ds rs t) from end ds (putMarked rs (t .«to_domain») p (markOf (keyText Path s p)))
+          (record { gateway = t .gateway; «to_path» = t .«to_path»; «to_domain» = t .«to_domain» + 1 })
+      unfolding tableAt withRow
+      join-path l f g =
+          let n = t .«to_domain» in
+          let few : n < mostRows = omega arith in
+          let mark = markOf (keyText Path s p) in
+          record {
+            good = g;
+            table = rw (no-domain (split 9 (between s from end)) none (f .accepted), rows-put s rs n p mark few l, f .row);
+            kept =
+                record {
+                  gateway = k .gateway;
+                  paths = k .paths;
+                  domains = inside-put s rs n p mark few l (k .domains) (found-inside f e (omega arith));
+                  domainMarks = k .domainMarks;
+                  pathMarks = marked-put Path s rs n p few l (k .pathMarks);
+                  most = omega arith;
+                };
+          }
+
+      pub adding-path : length rs ≡ rowsSize → RowFound s from end 82 longestRowDomain p → (new : Bool) {ms : List ℕ} → Placed Path s rs (t .«to_domain») p new ms
+          → Adding s (tableAt s ds rs t) from end (addedIf new (record { gateway = t .gateway; «to_path» = t .«to_path»; «to_domain» = t .«to_domain» + 1 })) ds ms
+      adding-path l f true q = rw (q .rows refl) (join-path l f (bad-path h none f ∙ ap not (sym (q .answers))))
+      adding-path l f false q = bad-path h none f ∙ ap not (sym (q .answers))
 
 -- ---- the lines that are left
 
@@ -197,13 +229,21 @@ pub record Progress (s : List ℕ) (start : Table) (from : ℕ) (ds rs : List �
   pub within : at ≤ length s
   pub counts : line ≤ at + 2
 
-pub progress-start : (s ds rs : List ℕ) (g : line.Row.Row) (from : ℕ) → RowInside s g → from ≤ length s
+pub progress-start : (s ds rs : List ℕ) (g : line.Row.Row) (from : ℕ) → length ds ≡ rowsSize → length rs ≡ rowsSize → RowInside s g → from ≤ length s
     → Progress s (bareTable (rowAt s g)) from ds rs (record { gateway = g; «to_path» = 0; «to_domain» = 0 }) from 2
 unfolding bareTable tableAt rowsAt rowsFrom
-progress-start s ds rs g from i h =
+progress-start s ds rs g from d r i h =
     record {
       left = refl;
-      kept = record { gateway = i; paths = inside-none s ds; domains = inside-none s rs; most = omega arith };
+      kept =
+          record {
+            gateway = i;
+            paths = inside-none s ds;
+            domains = inside-none s rs;
+            domainMarks = marked-none Domain s ds d;
+            pathMarks = marked-none Path s rs r;
+            most = omega arith;
+          };
       within = h;
       counts = omega arith;
     }

@@ -1,8 +1,8 @@
--- Laws of rows kept as numbers: a row put behind the others joins them and leaves them, what a loop over rows has left, and paths compared
--- as texts.
+-- Laws of rows kept as numbers: a row put behind the others with its mark joins them and leaves them, what all rows have, and paths
+-- compared as texts.
 -- Assumes nothing.
 use mathlib.Core.Path.{_≡_, refl, sym, ap, ap₂, _∙_}
-use mathlib.Core.Bool.{Bool, true, false, _&&_}
+use mathlib.Core.Bool.{Bool, true, false, and-false}
 use mathlib.Core.List.{List, [], _∷_, _++_, map, append-assoc}
 use Prim.Native.Nat.{ℕ, zero, suc, _+_, _-_, _*_, _≤_, _<_}
 use native.Mathlib.Nat.{add-zero, zero-add}
@@ -11,7 +11,7 @@ use native.Mathlib.Omega.{arith}
 use borrow.Author.Count.{below-more}
 use borrow.Author.Tests.{le-leb}
 use lib.ListN.{length, getD, take, drop, set, length-set, List·getD-append}
-use lib.Seq.{sets, sets-eq, getD-append-add, getD-set-other, length-take-le}
+use lib.Seq.{sets, sets-eq, getD-append-add, getD-set-other, getD-set-same, length-take-le}
 use Rattle.chars.specs.Lists.{all}
 use Rattle.chars.specs.Class.{between as inRange, isLetter}
 use Rattle.chars.specs.Case.{agree, foldText, sameText}
@@ -20,8 +20,13 @@ use Rattle.chars.proofs.Laws.Lists.{and-both, and-left, and-right, bool-same, t
 use Rattle.chars.proofs.Laws.Case.{same-of, same-path}
 use Rattle.chars.proofs.Laws.Parts.{join-split, split-fold}
 use Rattle.table.specs.Table.{Row, Token}
+use Rattle.table.specs.Keys.{keyText}
+use Rattle.table.specs.Lines.{mostRows}
+use Rattle.table.specs.Load.{rowsSize}
+use Rattle.table.specs.Marks.{Marked, markOf, marksAt, putMarked}
 use Rattle.table.specs.Rows.{Inside, RowInside, between, fieldsAt, placesAt, putAt, rowAt, rowsAt, rowsFrom}
 use Rattle.table.specs.declared.line as line
+use Rattle.table.specs.declared.rows.Key.{Key}
 
 -- ---- paths
 
@@ -61,28 +66,26 @@ pub same-paths : (s : List ℕ) (a b c d : ℕ) → a ≤ b → c ≤ d → same
 unfolding fieldsAt
 same-paths s a b c d h k = rw (le-leb a b h, le-leb c d k) (same-fields (between s a b) (between s c d))
 
--- ---- what a loop over the first n rows has left
+-- ---- all rows
 
-module _ (p : Row → Bool) (s ns : List ℕ) (n i : ℕ) where
-  pub rows-step : i < n → all p (rowsFrom s ns i (n - i)) ≡ (p (rowAt s (placesAt ns i)) && all p (rowsFrom s ns (i + 1) (n - (i + 1))))
-  unfolding rowsFrom all
-  rows-step h =
-      let e : n - i ≡ suc (n - (i + 1)) = omega arith in
-      rw e (ap (λ (k : ℕ). p (rowAt s (placesAt ns i)) && all p (rowsFrom s ns k (n - (i + 1)))) (sym (add-one i)))
+-- what holds of each row holds of all
+pub all-rows : (p : Row → Bool) (s ns : List ℕ) (i n : ℕ) → ((j : ℕ) → j < i + n → p (rowAt s (placesAt ns j)) ≡ true) → all p (rowsFrom s ns i n) ≡ true
+unfolding rowsFrom all
+all-rows p s ns i zero f = refl
+all-rows p s ns i (suc n) f = and-both (f i (omega arith)) (all-rows p s ns (suc i) n (λ j h. f j (omega arith)))
 
-  pub rows-end : n ≤ i → all p (rowsFrom s ns i (n - i)) ≡ true
-  unfolding rowsFrom all
-  rows-end h =
-      let e : n - i ≡ 0 = omega arith in
-      rw e
+-- what one has not, not all have
+pub one-row : (p : Row → Bool) (s ns : List ℕ) (i n j : ℕ) → j < n → p (rowAt s (placesAt ns (i + j))) ≡ false → all p (rowsFrom s ns i n) ≡ false
+unfolding rowsFrom all
+one-row p s ns i zero j l e = absurd (omega arith)
+one-row p s ns i (suc n) zero l e = rw (rw add-zero at e)
+one-row p s ns i (suc n) (suc j) l e =
+    let h : i + suc j ≡ suc i + j = omega arith in
+    rw (one-row p s ns (suc i) n j (omega arith) (rw h at e), and-false)
 
 -- ---- a row put behind the others
 
-pub length-put : (ns : List ℕ) (i : ℕ) (p : line.Row.Row) → length (putAt ns i p) ≡ length ns
-unfolding putAt
-length-put ns i p = simp length-set
-
--- what stands before a run of stores, and in it
+-- what stands before a run of stores, in it, and behind it
 before-sets : (l : List ℕ) (k : ℕ) (vs : List ℕ) (j : ℕ) → j < k → getD (sets l k vs) j 0 ≡ getD l j 0
 before-sets l k [] j h = refl
 before-sets l k (v ∷ vs) j h = before-sets (set l k v) (suc k) vs j (omega arith) ∙ getD-set-other l k j v 0 (λ e. omega arith)
@@ -95,24 +98,59 @@ in-sets l k vs j h g =
     ∙ getD-append-add (take k l) (vs ++ r) j 0
     ∙ List·getD-append vs r 0 j g
 
-module _ (ns : List ℕ) (i : ℕ) (p : line.Row.Row) where
-  pub places-put : i * 4 + 4 ≤ length ns → placesAt (putAt ns i p) i ≡ p
-  unfolding placesAt putAt
-  places-put h =
-      let vs : List ℕ = p .domain ∷ p .«domain_end» ∷ p .path ∷ p .«path_end» ∷ [] in
-      let e : getD (sets ns (i * 4) vs) (i * 4) 0 ≡ p .domain = ap (λ (k : ℕ). getD (sets ns (i * 4) vs) k 0) (sym (add-zero (i * 4))) ∙ in-sets ns (i * 4) vs 0 h (omega arith) in
-      rw (e, in-sets ns (i * 4) vs 1 h (omega arith), in-sets ns (i * 4) vs 2 h (omega arith), in-sets ns (i * 4) vs 3 h (omega arith))
+behind-sets : (l : List ℕ) (k : ℕ) (vs : List ℕ) (j : ℕ) → k + length vs ≤ j → getD (sets l k vs) j 0 ≡ getD l j 0
+behind-sets l k [] j h = refl
+behind-sets l k (v ∷ vs) j h = behind-sets (set l k v) (suc k) vs j (omega arith) ∙ getD-set-other l k j v 0 (λ e. omega arith)
 
-  pub places-before : (j : ℕ) → j < i → placesAt (putAt ns i p) j ≡ placesAt ns j
-  unfolding placesAt putAt
-  places-before j h =
-      let vs : List ℕ = p .domain ∷ p .«domain_end» ∷ p .path ∷ p .«path_end» ∷ [] in
-      rw (
-        before-sets ns (i * 4) vs (j * 4) (omega arith),
-        before-sets ns (i * 4) vs (j * 4 + 1) (omega arith),
-        before-sets ns (i * 4) vs (j * 4 + 2) (omega arith),
-        before-sets ns (i * 4) vs (j * 4 + 3) (omega arith),
-      )
+-- a mark stands behind the places of all rows
+places-mark : (ns : List ℕ) (i mark j : ℕ) → j < mostRows → placesAt (set ns (marksAt + i) mark) j ≡ placesAt ns j
+unfolding placesAt
+places-mark ns i mark j h =
+    let k = marksAt + i in
+    rw (
+      getD-set-other ns k (j * 4) mark 0 (λ e. omega arith),
+      getD-set-other ns k (j * 4 + 1) mark 0 (λ e. omega arith),
+      getD-set-other ns k (j * 4 + 2) mark 0 (λ e. omega arith),
+      getD-set-other ns k (j * 4 + 3) mark 0 (λ e. omega arith),
+    )
+
+-- the row's places and mark stand there, and those before it stay
+module _ (ns : List ℕ) (i : ℕ) (p : line.Row.Row) (mark : ℕ) where
+  length-put : length (putMarked ns i p mark) ≡ length ns
+  unfolding putMarked putAt
+  length-put = simp length-set
+
+  module _ (f : i < mostRows) (l : length ns ≡ rowsSize) where
+    places-put : placesAt (putMarked ns i p mark) i ≡ p
+    unfolding putMarked placesAt putAt
+    places-put =
+        let vs : List ℕ = p .domain ∷ p .«domain_end» ∷ p .path ∷ p .«path_end» ∷ [] in
+        let h : i * 4 + 4 ≤ length ns = omega arith in
+        let e : getD (sets ns (i * 4) vs) (i * 4) 0 ≡ p .domain = ap (λ (k : ℕ). getD (sets ns (i * 4) vs) k 0) (sym (add-zero (i * 4))) ∙ in-sets ns (i * 4) vs 0 h (omega arith) in
+        places-mark (putAt ns i p) i mark i f
+        ∙ rw (e, in-sets ns (i * 4) vs 1 h (omega arith), in-sets ns (i * 4) vs 2 h (omega arith), in-sets ns (i * 4) vs 3 h (omega arith))
+
+    places-before : (j : ℕ) → j < i → placesAt (putMarked ns i p mark) j ≡ placesAt ns j
+    unfolding putMarked placesAt putAt
+    places-before j h =
+        let vs : List ℕ = p .domain ∷ p .«domain_end» ∷ p .path ∷ p .«path_end» ∷ [] in
+        places-mark (putAt ns i p) i mark j (omega arith)
+        ∙ rw (
+          before-sets ns (i * 4) vs (j * 4) (omega arith),
+          before-sets ns (i * 4) vs (j * 4 + 1) (omega arith),
+          before-sets ns (i * 4) vs (j * 4 + 2) (omega arith),
+          before-sets ns (i * 4) vs (j * 4 + 3) (omega arith),
+        )
+
+    mark-put : getD (putMarked ns i p mark) (marksAt + i) 0 ≡ mark
+    unfolding putMarked putAt
+    mark-put = getD-set-same (putAt ns i p) (marksAt + i) mark 0 (simp length-set (omega arith))
+
+    mark-before : (j : ℕ) → j < i → getD (putMarked ns i p mark) (marksAt + j) 0 ≡ getD ns (marksAt + j) 0
+    unfolding putMarked putAt
+    mark-before j h =
+        getD-set-other (putAt ns i p) (marksAt + i) (marksAt + j) mark 0 (λ e. omega arith)
+        ∙ behind-sets ns (i * 4) (p .domain ∷ p .«domain_end» ∷ p .path ∷ p .«path_end» ∷ []) (marksAt + j) (omega arith)
 
 module _ (s ns : List ℕ) where
   rows-same : (ms : List ℕ) (i n : ℕ) → ((j : ℕ) → j < i + n → placesAt ms j ≡ placesAt ns j) → rowsFrom s ms i n ≡ rowsFrom s ns i n
@@ -141,21 +179,39 @@ module _ (s ns : List ℕ) where
   length-rows n = length-from 0 n
 
 -- a row put behind the first n joins them
-pub rows-put : (s ns : List ℕ) (n : ℕ) (p : line.Row.Row) → n * 4 + 4 ≤ length ns → rowsAt s (putAt ns n p) (n + 1) ≡ rowsAt s ns n ++ (rowAt s p ∷ [])
-unfolding rowsAt
-rows-put s ns n p h =
-    ap (rowsFrom s (putAt ns n p) 0) (add-one n)
-    ∙ rows-snoc s (putAt ns n p) 0 n
-    ∙ ap₂ (λ (rs : List Row) (q : line.Row.Row). rs ++ (rowAt s q ∷ []))
-    (rows-same s ns (putAt ns n p) 0 n (λ j l. places-before ns n p j (omega arith)))
-    (ap (placesAt (putAt ns n p)) (zero-add n) ∙ places-put ns n p h)
+module _ (s ns : List ℕ) (n : ℕ) (p : line.Row.Row) (mark : ℕ) (f : n < mostRows) (l : length ns ≡ rowsSize) where
+  pub rows-put : rowsAt s (putMarked ns n p mark) (n + 1) ≡ rowsAt s ns n ++ (rowAt s p ∷ [])
+  unfolding rowsAt
+  rows-put =
+      let ms = putMarked ns n p mark in
+      ap (rowsFrom s ms 0) (add-one n)
+      ∙ rows-snoc s ms 0 n
+      ∙ ap₂ (λ (rs : List Row) (q : line.Row.Row). rs ++ (rowAt s q ∷ []))
+      (rows-same s ns ms 0 n (λ j h. places-before ns n p mark f l j (omega arith)))
+      (ap (placesAt ms) (zero-add n) ∙ places-put ns n p mark f l)
 
-pub inside-put : {s ns : List ℕ} {n : ℕ} {p : line.Row.Row} → Inside s ns n → n * 4 + 4 ≤ length ns → RowInside s p → Inside s (putAt ns n p) (n + 1)
-inside-put {s} {ns} {n} {p} f h r =
+  pub inside-put : Inside s ns n → RowInside s p → Inside s (putMarked ns n p mark) (n + 1)
+  inside-put i r =
+      record {
+        fits = omega (arith, length-put ns n p mark);
+        each = below-more (λ k. RowInside s (placesAt (putMarked ns n p mark) k)) n (λ k h. rw (places-before ns n p mark f l k h) (i .each k h)) (rw (places-put ns n p mark f l) r);
+      }
+
+pub marked-put : (k : Key) (s ns : List ℕ) (n : ℕ) (p : line.Row.Row) → n < mostRows → length ns ≡ rowsSize → Marked k s ns n
+    → Marked k s (putMarked ns n p (markOf (keyText k s p))) (n + 1)
+marked-put k s ns n p f l m =
+    let mark = markOf (keyText k s p) in
+    let ms = putMarked ns n p mark in
     record {
-      fits = omega (arith, length-put ns n p);
-      each = below-more (λ k. RowInside s (placesAt (putAt ns n p) k)) n (λ k l. rw (places-before ns n p k l) (f .each k l)) (rw (places-put ns n p h) r);
+      fits = omega (arith, length-put ns n p mark);
+      each =
+          below-more (λ i. getD ms (marksAt + i) 0 ≡ markOf (keyText k s (placesAt ms i))) n
+          (λ i h. mark-before ns n p mark f l i h ∙ m .each i h ∙ ap (λ (q : line.Row.Row). markOf (keyText k s q)) (sym (places-before ns n p mark f l i h)))
+          (mark-put ns n p mark f l ∙ ap (λ (q : line.Row.Row). markOf (keyText k s q)) (sym (places-put ns n p mark f l)));
     }
 
 pub inside-none : (s ns : List ℕ) → Inside s ns 0
 inside-none s ns = record { fits = omega arith; each = λ i h. absurd (omega arith) }
+
+pub marked-none : (k : Key) (s ns : List ℕ) → length ns ≡ rowsSize → Marked k s ns 0
+marked-none k s ns l = record { fits = omega arith; each = λ i h. absurd (omega arith) }

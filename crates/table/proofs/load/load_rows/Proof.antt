@@ -26,7 +26,7 @@ loop-holds : tie.Need-loop-holds Inv-loop μ-loop
 loop-holds c =
     let start = c .before .before .before in
     let a = start .args in
-    (refl, refl, progress-start (a .text .now) (a .to-path .now) (a .to-domain .now) (a .gateway) (a .from) (start .pre .1 .1 .0) (start .pre .1 .1 .1))
+    (refl, refl, progress-start (a .text .now) (a .to-path .now) (a .to-domain .now) (a .gateway) (a .from) (start .pre .0) (start .pre .1 .0) (start .pre .1 .1 .0) (start .pre .1 .1 .1))
 
 part-end-requires : tie.Need-part-end-requires Inv-loop μ-loop
 part-end-requires c κs = search needs

@@ -1,10 +1,11 @@
--- `table::rows::put_row` meets its contract: the four stores are one run of them.
+-- `table::rows::put_row` meets its contract: the first four stores are one run of them, and the mark is stored behind the places.
 -- Assumes nothing.
 use mathlib.Core.Path.{_≡_}
 use Prim.Native.Nat.{suc, _+_, _*_}
 use native.Mathlib.Omega.{arith}
 use lib.ListN.{length-set}
 use borrow.Author.Needs.{needs}
+use Rattle.table.specs.Marks.{putMarked}
 use Rattle.table.specs.Rows.{putAt}
 use Rattle.table.proofs.rows.put_row.Statement.{statement}
 use Rattle.table.proofs.rows.put_row.Tie as tie
@@ -45,11 +46,20 @@ mul-rows-4 c = search needs
 slice-write-rows-4 : tie.Need-slice-write-rows-4
 slice-write-rows-4 c = simp length-set (omega arith)
 
+add-rows-4 : tie.Need-add-rows-4
+add-rows-4 c = search needs
+
+mul-rows-5 : tie.Need-mul-rows-5
+mul-rows-5 c = search needs
+
+slice-write-rows-5 : tie.Need-slice-write-rows-5
+slice-write-rows-5 c = simp length-set (omega arith)
+
 same-length : tie.Need-same-length
 same-length c = search needs
 
 returns : tie.Need-returns
-unfolding putAt
+unfolding putMarked putAt
 returns c =
     let k = c .args .i * 4 in
     let e : k + 1 ≡ suc k = omega arith in
@@ -73,5 +83,8 @@ put-row-spec =
     add-rows-3
     mul-rows-4
     slice-write-rows-4
+    add-rows-4
+    mul-rows-5
+    slice-write-rows-5
     same-length
     returns)
