@@ -3,4 +3,5 @@ pub mod Closing
 pub mod Code
 pub mod Domain
 pub mod Shape
+pub mod Shaped
 pub mod Tail

@@ -57,3 +57,9 @@ take-front t o = take-append-seam t (drop (length t) o)
 pub drop-front : (t o : List ℕ) → drop (length t) (front t o) ≡ drop (length t) o
 unfolding front
 drop-front t o = drop-append-seam t (drop (length t) o)
+
+-- a text that was written to the front of a buffer with room for it stands there
+pub wrote-taken : {o n t : List ℕ} {j : ℕ} → Wrote o 0 t j n → length t ≤ length o → take j n ≡ t
+wrote-taken {o} {n} {t} {j} w h =
+    let e : j ≡ length t = omega (arith, w .moved) in
+    ap (λ (k : ℕ). take k n) e ∙ ap (take (length t)) (wrote-front w h) ∙ take-front t o

@@ -1,0 +1,111 @@
+-- What the answers of the code stand for: "a definition gives this paper's number and values for each case of the enum".
+-- Assumes nothing.
+use mathlib.Core.Path.{_≡_}
+use mathlib.Core.Bool.{Bool, false, _&&_, cond}
+use mathlib.Core.List.{List, []}
+use mathlib.Core.Option.{Option, none, some}
+use Prim.Native.Nat.{ℕ, _+_, _≤_}
+use lib.ListN.{length, take, drop}
+use Rattle.ortext.specs.Apply as apply
+use Rattle.oraddr.specs.Canonical.{canonicalRecord}
+use Rattle.ortext.specs.Apply.{again, read, readLocal, refused, unread}
+use Rattle.ortext.specs.Keys.{keys}
+use Rattle.oraddr.specs.declared.record.Record.{Record}
+use Rattle.mailaddr.specs.Domain.{isDomain}
+use Rattle.mailaddr.specs.Shape.{Address, isReadable, unquotedLocal}
+use Rattle.table.specs.Table.{Table, Token}
+use Rattle.table.specs.Rows.{RowInside, between, rowAt, rowsAt}
+use Rattle.table.specs.declared.load as load
+use Rattle.mapping.specs.Carried.{resultOf}
+use Rattle.mapping.specs.Results.{AddressResult, RecordResult}
+use Rattle.mapping.specs.ToAddress.{Plan, extended}
+use Rattle.mapping.specs.declared.carrier.Written.{Written}
+use Rattle.mapping.specs.declared.carrier.Written.the-variants.{Length, NoAddress}
+use Rattle.mapping.specs.declared.to_record.RecordAnswer.{RecordAnswer}
+use Rattle.mapping.specs.declared.to_record.RecordAnswer.the-variants as record-answer
+use Rattle.mapping.specs.declared.to_record.ToRecord.{ToRecord}
+use Rattle.mapping.specs.declared.to_address.AddressAnswer.{AddressAnswer}
+use Rattle.mapping.specs.declared.to_address.AddressAnswer.the-variants as address-answer
+use Rattle.mapping.specs.declared.to_address.Route.{Route}
+use Rattle.mapping.specs.declared.to_address.ToAddress.{ToAddress}
+
+-- document 01's number for each answer of address to record, and the line
+unfoldable pub recordNumber : RecordAnswer → ℕ
+recordNumber record-answer.Done = 0
+recordNumber record-answer.NoShape = 1
+recordNumber record-answer.TooLong = 2
+recordNumber record-answer.TooLongCoded = 3
+recordNumber (record-answer.Malformed l) = 7
+
+unfoldable pub recordLine : RecordAnswer → ℕ
+recordLine record-answer.Done = 0
+recordLine record-answer.NoShape = 0
+recordLine record-answer.TooLong = 0
+recordLine record-answer.TooLongCoded = 0
+recordLine (record-answer.Malformed l) = l
+
+unfoldable pub toldRecord : ToRecord → RecordResult
+unfolding recordNumber recordLine
+toldRecord r = record { number = recordNumber (r .answer); line = recordLine (r .answer); record' = r .«record» }
+
+-- the same of record to address, with what the buffer holds
+unfoldable pub addressNumber : AddressAnswer → ℕ
+addressNumber address-answer.Done = 0
+addressNumber address-answer.NotCanonical = 4
+addressNumber address-answer.NoAddress = 5
+addressNumber address-answer.ShortBuffer = 6
+addressNumber (address-answer.Malformed l) = 7
+
+unfoldable pub addressLine : AddressAnswer → ℕ
+addressLine address-answer.Done = 0
+addressLine address-answer.NotCanonical = 0
+addressLine address-answer.NoAddress = 0
+addressLine address-answer.ShortBuffer = 0
+addressLine (address-answer.Malformed l) = l
+
+unfoldable pub toldAddress : ToAddress → List ℕ → AddressResult
+unfolding addressNumber addressLine
+toldAddress r new = record { number = addressNumber (r .answer); line = addressLine (r .answer); size = r .size; buffer = new }
+
+-- ---- on the way
+
+-- the table that was loaded, as far as each mapping reads it: its gateway, and the rows of its direction
+abbrev pub inward : List ℕ → List ℕ → load.Loaded.Loaded → Table
+inward s ds t = record { gateway = rowAt s (t .gateway); toPath = rowsAt s ds (t .«to_path»); toDomain = [] }
+
+abbrev pub outward : List ℕ → List ℕ → load.Loaded.Loaded → Table
+outward s rs t = record { gateway = rowAt s (t .gateway); toPath = []; toDomain = rowsAt s rs (t .«to_domain») }
+
+-- a local part that can be read, read over a record with its first n levels settled
+unfoldable pub readSettled : ℕ → Record → List ℕ → apply.Reading
+unfolding isReadable readLocal keys
+readSettled n r s = cond (isReadable s) (readLocal keys n r s) unread
+
+-- what the four steps come to, where the domain is of domain parts and the local part can be read
+unfoldable pub readWell : Table → Address → apply.Reading
+unfolding isDomain isReadable unquotedLocal resultOf
+readWell t a = cond (isDomain (a .domain) && isReadable (unquotedLocal a)) (resultOf t a) unread
+
+-- what was read is a canonical record
+unfoldable pub isGood : apply.Reading → Bool
+unfolding canonicalRecord
+isGood unread = false
+isGood refused = false
+isGood again = false
+isGood (read r) = canonicalRecord r
+
+-- A text at the front of a buffer, or that there is none.
+pub record Fronted (o : Option (List ℕ)) (n : ℕ) (new : List ℕ) : Type 0 where
+  pub told : o ≡ some (take n new)
+  pub fits : n ≤ length new
+
+abbrev pub Writing : Option (List ℕ) → Written → List ℕ → Type 0
+Writing o (Length n) new = Fronted o n new
+Writing o NoAddress new = o ≡ none
+
+-- A route is the plan of a record with these levels: its row's domain, with the levels behind the first `own` in front.
+pub record Routed (s : List ℕ) (ls : List Token) (p : Plan) (r : Route) : Type 0 where
+  pub from : p .from ≡ r .own + r .more
+  pub domain : p .domain ≡ extended (between s (r .row .domain) (r .row .«domain_end»)) (take (r .more) (drop (r .own) ls))
+  pub inside : RowInside s (r .row)
+  pub few : r .own + r .more ≤ 8
