@@ -9,11 +9,43 @@ import glob
 import json
 import os
 
+import mapping
 import rules
+from table_cases import load
 
 CRATE = "crates/mapping_cases/"
 NAMES = ["C", "ADMD", "PRMD", "O", "S", "G", "I", "GQ"]
-ROOMS = {"V": 64, "U": 32, "T": 8, "W": 128}
+
+# The table of document 01's `orroute`, a row that settles all levels but OU4, and one that settles PRMD as omitted.
+GATEWAY = b"G\tgw.survey.test\tXY\t \tSURVEY\n"
+PORTS = GATEWAY + b"D\ttow.test\tXY\tPORTNET\tTOW\nR\ttow.test\tXY\tPORTNET\tTOW\n"
+TABLE = PORTS + b"D\tdeep.test\tXY\tPORTNET\tTOW\tbrack\tu1\tu2\tu3\nD\tgap.test\tXY\tPORTNET\t\nR\tgap.test\tXY\tPORTNET\t\n"
+
+# Each clause of "carried whole": an address for which it alone holds, and a neighbour for which none does.
+CLAUSES = [
+    ("no row", b"Ann.Lee@else.test", b"Ann.Lee@brack.tow.test"),
+    ("no row", b"Ann.Lee@undertow.test", b"Ann.Lee@tow.test"),
+    ("no domain part", b"Ann.Lee@a+b.tow.test", b"Ann.Lee@ab.tow.test"),
+    ("past a bound", b"Ann.Lee@" + b"u" * 33 + b".brack.tow.test", b"Ann.Lee@" + b"u" * 32 + b".brack.tow.test"),
+    ("past OU4", b"Ann.Lee@a.b.deep.test", b"Ann.Lee@a.deep.test"),
+    ("empty", b'""@brack.tow.test', b'"L"@brack.tow.test'),
+    ("spaces", b'"Ann  Lee"@brack.tow.test', b'"Ann Lee"@brack.tow.test'),
+    ("spaces", b'" Lee"@brack.tow.test', b'"Lee"@brack.tow.test'),
+    ("spaces", b'"Lee "@brack.tow.test', b'"Leex"@brack.tow.test'),
+    ("other character", b"Ann_Lee@brack.tow.test", b"Ann-Lee@brack.tow.test"),
+    ("no reading", b'"Ann."@brack.tow.test', b'"Ann.L"@brack.tow.test'),
+    ("unknown key", b"/S=Lee/CN=x/@brack.tow.test", b"/S=Lee/GQ=x/@brack.tow.test"),
+    ("unknown key", b"/S=Lee/DD=x/@brack.tow.test", b"/S=Lee/DD.t=x/@brack.tow.test"),
+    ("repeated key", b"/S=Lee/S=Lee/@brack.tow.test", b"/S=Lee/OU=Lee/OU=Lee/@brack.tow.test"),
+    ("PN beside a name", b"/PN=Lee/GQ=x/@brack.tow.test", b"/PN=Lee/OU=x/@brack.tow.test"),
+    ("PN is no name", b'"/PN=Ann./"@brack.tow.test', b'"/PN=Ann.L/"@brack.tow.test'),
+    ("named again", b"/S=Lee/O=brack/@brack.tow.test", b"/S=Lee/OU=brack/@brack.tow.test"),
+    ("named again", b"/S=Lee/PRMD=x/@gap.test", b"/S=Lee/O=x/@gap.test"),
+    ("not canonical", b"/G=Ann/@brack.tow.test", b"/G=Ann/S=Lee/@brack.tow.test"),
+    ("not canonical", b"/S=Lee/OU=a/OU=b/OU=c/OU=d/OU=e/@tow.test", b"/S=Lee/OU=a/OU=b/OU=c/OU=d/@tow.test"),
+    ("not canonical", b"/DD.a=1/DD.b=2/DD.c=3/DD.d=4/DD.e=5/@tow.test", b"/DD.a=1/DD.b=2/DD.c=3/DD.d=4/@tow.test"),
+    ("not canonical", b"/S=Lee/PRMD=/ADMD=P/C=XY/@gw.survey.test", b"/S=Lee/PRMD=Q/ADMD=P/C=XY/@gw.survey.test"),
+]
 
 
 class Cases:
@@ -112,10 +144,144 @@ def from_runs(cases):
                 out.append(address_answer(int(number), 0, shown, 2048))
 
 
+def add_address(cases, table, s):
+    lines, out = cases.under(table)
+    lines.append(line(b"A", s))
+    out.append(record_answer(*mapping.to_record(table, s)))
+
+
+def add_record(cases, table, record, room):
+    lines, out = cases.under(table)
+    lines += record_lines(record["one"], record["OU"], record["DD"]) + [line(b"R", pair(room))]
+    out.append(address_answer(*mapping.to_address(table, record, room), room))
+
+
+def from_clauses(cases):
+    for name, alone, none in CLAUSES:
+        assert mapping.clauses(load(TABLE), alone) == [name], alone
+        assert mapping.clauses(load(TABLE), none) == [], none
+        add_address(cases, TABLE, alone)
+        add_address(cases, TABLE, none)
+
+
+def record(one, units=(), dds=()):
+    return {"one": {k: v for k, v in one.items() if v}, "OU": list(units), "DD": list(dds)}
+
+
+LEE = {"C": b"XY", "ADMD": b"PORTNET", "PRMD": b"TOW", "S": b"Lee"}
+
+
+def from_edges(cases):
+    """Both sides of document 01's edges, the order of the refusals, and buffers that are too short, just long enough and longer."""
+    for n in (63, 64):
+        add_record(cases, PORTS, record({**LEE, "O": b"o" * n}), 2048)
+    for n in (116, 117):
+        add_address(cases, PORTS, b"x" * n + b"@else.test")
+    # 2 before 1, 1 before 3
+    for s in (b"x" * 2049, b"x" * 2048, b"x" * 2038 + b"@else.test", b"x" * 2039 + b"@else.test", b"a@@b", b""):
+        add_address(cases, PORTS, s)
+    for table in (b"", PORTS[:-1], PORTS + b"\n"):
+        add_address(cases, table, b"a@@b")
+        add_record(cases, table, record({}), 0)
+    samples = [
+        record({**LEE, "O": b"brack"}, [b"Fender Two"]),
+        record({"C": b"XY", "ADMD": b" ", "PRMD": b"SURVEY"}, dds=[(b"rfc-822", b"a(u)b(a)else.test")]),
+        record({"C": b"AB", "ADMD": b"P", "G": b"/S=a", "S": b"b/"}, dds=[(b"t", b"v/=")]),
+    ]
+    for r in samples:
+        n = len(mapping.to_address(PORTS, r, 4096)[2])
+        for room in (0, 1, n - 1, n, n + 1, 2048, 4096):
+            add_record(cases, PORTS, r, room)
+    bad = record({"C": b"XY", "ADMD": b" ", "PRMD": b"SURVEY"}, dds=[(b"RFC-822", b"a(128)")])
+    shapeless = record({"C": b"XY", "ADMD": b" ", "PRMD": b"SURVEY"}, dds=[(b"RFC-822", b"a(a)(a)b")])
+    none = record({"C": b"XY", "ADMD": b" ", "PRMD": b"SURVEY", "G": b"Ann"}, dds=[(b"RFC-822", b"a(128)")])
+    # 5 before 6, 4 before 5, 7 before 4
+    for r in (bad, shapeless, none):
+        for room in (0, 2048):
+            add_record(cases, PORTS, r, room)
+    # every level, the longest values, nothing but quoted characters
+    longest = {"C": b"XY", "ADMD": b"=" * 16, "PRMD": b"=" * 16, "O": b"=" * 64, "S": b"=" * 40, "G": b"=" * 16, "I": b"=" * 5, "GQ": b"=" * 3}
+    add_record(cases, PORTS, record(longest, [b"/" * 32] * 4, [(b"/" * 8, b"=" * 128)] * 4), 4096)
+
+
+def from_disturbed(cases):
+    """Records whose lengths and counts are out of range: 4, and the buffer as before."""
+    lines, out = cases.under(PORTS)
+    good = record_lines({**LEE, "O": b"brack"}, [b"u"], [(b"t", b"v")])
+    for k in range(8):
+        for size in (65, 65535):
+            lines += good + [line(b"V", bytes([k]) + pair(size) + b"XY"), line(b"R", pair(64))]
+            out.append(address_answer(4, 0, b"", 64))
+    for size in (33, 65535):
+        lines += good + [line(b"U", pair(size) + b"u"), line(b"R", pair(64))]
+        out.append(address_answer(4, 0, b"", 64))
+    for t, v in ((9, 1), (65535, 1), (1, 129), (1, 65535)):
+        lines += good + [line(b"D", pair(t) + b"t", pair(v) + b"v"), line(b"R", pair(64))]
+        out.append(address_answer(4, 0, b"", 64))
+    for units, dds in ((5, 1), (255, 1), (1, 5), (1, 255)):
+        lines += good + [line(b"C", bytes([units, dds])), line(b"R", pair(64))]
+        out.append(address_answer(4, 0, b"", 64))
+
+
+# The worked mapping examples of documents 000, 001 and 002 that document 01's rules cover: section, table rows, address, record text, and
+# which way. The answers are the documents', in document 01's form: keys in capitals, its order of keys.
+BOTH, IN, OUT = "AO", "A", "O"
+WORKED = [
+    ("000 4.3.1", b"widget.com\tTC\tBTT\t\tWidget", b"/I=J/S=Linnimouth/GQ=5/@Marketing.widget.com",
+     b"/I=J/S=Linnimouth/GQ=5/OU=Marketing/O=Widget/ADMD=BTT/C=TC/", BOTH),
+    ("000 4.3.1", b"widget.com\tTC\tBTT\t\tWidget", b"J.Linnimouth@Marketing.widget.com", b"/I=J/S=Linnimouth/OU=Marketing/O=Widget/ADMD=BTT/C=TC/", BOTH),
+    ("000 4.3.1", b"AC.UK\tGB\tGOLD 400\tUK.AC", b"Lee@R-D.Salford.AC.UK", b"/S=Lee/OU=R-D/O=Salford/PRMD=UK.AC/ADMD=GOLD 400/C=GB/", BOTH),
+    ("001 4.2.1", b"AC.UK\t234\tBT\tDES", b"Lee@R-D.Salford.AC.UK", b"/S=Lee/OU=R-D/O=Salford/PRMD=DES/ADMD=BT/C=234/", BOTH),
+    ("001 4.2.1", b"Xerox.COM\tUS\tATT\t\tXerox", b"J.Linnimouth@Marketing.Xerox.COM", b"/I=J/S=Linnimouth/OU=Marketing/O=Xerox/ADMD=ATT/C=US/", BOTH),
+    ("001 4.3", b"Inria.PTT.FR\tFR\tPTT\tInria", b"/PN=Duval/DD.Title=Manager/@Inria.PTT.FR", b"/DD.Title=Manager/S=Duval/PRMD=Inria/ADMD=PTT/C=FR/", IN),
+    ("000 4.4", b"ATLAS.FR\tFR\tATLAS", b"/PN=Duval/DD.Title=Manager/@Inria.ATLAS.FR", b"/DD.Title=Manager/S=Duval/PRMD=Inria/ADMD=ATLAS/C=FR/", IN),
+    ("000 4.4", b"", b'"/C=UK/ADMD=BT/PRMD=AC/RFC-822=jj(a)seismo.css.gov/"@gw.survey.test', b"/RFC-822=jj(a)seismo.css.gov/PRMD=AC/ADMD=BT/C=UK/", IN),
+    ("002 4.4", b"", b'"/RFC-822=jj(a)seismo.css.gov/PRMD=AC/ADMD=BT/C=GB/"@gw.survey.test', b"/RFC-822=jj(a)seismo.css.gov/PRMD=AC/ADMD=BT/C=GB/", BOTH),
+    ("002 4.3.5", b"Master400.it\tit\tMaster400", b"/S=Support/O=sales/@Master400.it", b"/S=Support/O=sales/ADMD=Master400/C=it/", BOTH),
+    ("002 4.3.5", b"autoroutes.fr\tfr\tatlas\tautoroutes", b'"/S=renseignements/O=Region Parisienne/"@autoroutes.fr',
+     b"/S=renseignements/O=Region Parisienne/PRMD=autoroutes/ADMD=atlas/C=fr/", BOTH),
+    ("002 4.3.5", b"ptpostel.it\tit\tPtPostel", b'"/DD.cap=20100/DD.ph1=Via Larga 11/DD.city=Milano/S=Rossi/"@ptpostel.it',
+     b"/DD.cap=20100/DD.ph1=Via Larga 11/DD.city=Milano/S=Rossi/ADMD=PtPostel/C=it/", BOTH),
+    ("002 4.3.5", b"attmail.com\tus\tATT", b"/G=Andy/S=Wharol/O=MMNY/@attmail.com", b"/G=Andy/S=Wharol/O=MMNY/ADMD=ATT/C=us/", BOTH),
+]
+# Carriers: section, the gateway's path, address, the carrier's record text.
+CARRIED = [
+    ("000 4.3.2", b"GB\tGOLD 400\tUK.AC\tUCL\tCS", b"Jimmy@WIDGET-LABS.CO.UK", b"/RFC-822=Jimmy(a)WIDGET-LABS.CO.UK/OU=CS/O=UCL/PRMD=UK.AC/ADMD=GOLD 400/C=GB/"),
+    ("000 4.3.2", b"TC\tWizz.mail\t42", b"postel@venera.isi.edu", b"/RFC-822=postel(a)venera.isi.edu/PRMD=42/ADMD=Wizz.mail/C=TC/"),
+    ("001 4.2.2", b"US\tTelemail\tSan Fransisco\tU Cal\tBerkeley", b"postel@usc-isib.arpa",
+     b"/RFC-822=postel(a)usc-isib.arpa/OU=Berkeley/O=U Cal/PRMD=San Fransisco/ADMD=Telemail/C=US/"),
+    ("000 4.4", b"UK\tGold 400\tUK.AC", b"/PN=Duval/DD.Title=Manager/@Inria.ATLAS.FR",
+     b"/RFC-822=$/PN$=Duval$/DD.Title$=Manager$/(a)Inria.ATLAS.FR/PRMD=UK.AC/ADMD=Gold 400/C=UK/"),
+    ("002 4.3.4", b"us\tMCI\trelay", b"Tom_Harris@cs.widget.com", b"/RFC-822=Tom(u)Harris(a)cs.widget.com/PRMD=relay/ADMD=MCI/C=us/"),
+]
+
+
+def add_pair(cases, table, address, text, ways):
+    lines, out = cases.under(table)
+    if "A" in ways:
+        lines.append(line(b"A", address))
+        out.append(b"0\t" + text + b"\n")
+    if "O" in ways:
+        lines.append(line(b"O", text))
+        out.append(address_answer(0, 0, address, 2048))
+
+
+def from_worked(cases):
+    for _, rows, address, text, ways in WORKED:
+        table = GATEWAY + (b"D\t" + rows + b"\nR\t" + rows + b"\n" if rows else b"")
+        add_pair(cases, table, address, text, ways)
+    for _, path, address, text in CARRIED:
+        add_pair(cases, b"G\tgw.survey.test\t" + path + b"\n", address, text, BOTH)
+
+
 def main():
     cases = Cases()
     from_maps(cases)
     from_runs(cases)
+    from_clauses(cases)
+    from_edges(cases)
+    from_disturbed(cases)
+    from_worked(cases)
     cases.write()
 
 

@@ -42,10 +42,17 @@ pub fn is_digit(b: u8) -> bool
     b <= b'9'
 }
 
-// The ranges are space, ' to ), + to : (the digits among them), = and ?, and the letters.
+// The ranges are the letters, which most texts are made of and so come first; and below them space, ' to ), + to : (the digits among
+// them), = and ?.
 pub fn is_printable(b: u8) -> bool
     ensures { λ r. ⌜ r ≡ isPrintable b ⌝ }
 {
+    if b'a' <= b {
+        return b <= b'z';
+    }
+    if b'A' <= b {
+        return b <= b'Z';
+    }
     if b < b'\'' {
         return b == b' ';
     }
@@ -61,10 +68,7 @@ pub fn is_printable(b: u8) -> bool
     if b == b'=' {
         return true;
     }
-    if b == b'?' {
-        return true;
-    }
-    is_letter(b)
+    b == b'?'
 }
 
 // A printable string character, or the `$` that quotes one.

@@ -1,7 +1,7 @@
 -- What the answers of the code stand for: "a definition gives this paper's number and values for each case of the enum".
 -- Assumes nothing.
 use mathlib.Core.Path.{_≡_}
-use mathlib.Core.Bool.{Bool, false, _&&_, cond}
+use mathlib.Core.Bool.{Bool, false, cond}
 use mathlib.Core.List.{List, []}
 use mathlib.Core.Option.{Option, none, some}
 use Prim.Native.Nat.{ℕ, _+_, _≤_}
@@ -12,7 +12,7 @@ use Rattle.ortext.specs.Apply.{again, read, readLocal, refused, unread}
 use Rattle.ortext.specs.Keys.{keys}
 use Rattle.oraddr.specs.declared.record.Record.{Record}
 use Rattle.mailaddr.specs.Domain.{isDomain}
-use Rattle.mailaddr.specs.Shape.{Address, isReadable, unquotedLocal}
+use Rattle.mailaddr.specs.Shape.{Address, isReadable}
 use Rattle.table.specs.Table.{Table, Token}
 use Rattle.table.specs.Rows.{RowInside, between, rowAt, rowsAt}
 use Rattle.table.specs.declared.load as load
@@ -81,10 +81,10 @@ unfoldable pub readSettled : ℕ → Record → List ℕ → apply.Reading
 unfolding isReadable readLocal keys
 readSettled n r s = cond (isReadable s) (readLocal keys n r s) unread
 
--- what the four steps come to, where the domain is of domain parts and the local part can be read
+-- what the four steps come to, where the domain is of domain parts
 unfoldable pub readWell : Table → Address → apply.Reading
-unfolding isDomain isReadable unquotedLocal resultOf
-readWell t a = cond (isDomain (a .domain) && isReadable (unquotedLocal a)) (resultOf t a) unread
+unfolding isDomain resultOf
+readWell t a = cond (isDomain (a .domain)) (resultOf t a) unread
 
 -- what was read is a canonical record
 unfoldable pub isGood : apply.Reading → Bool

@@ -20,7 +20,7 @@ use Rattle.ortext.specs.Segments.{Segment, readSegments}
 use Rattle.ortext.specs.Apply.{Reading, again, hasRepeated, hasUnknown, namedAgain, pnMeets, read, readLocal, refused, unread, valueAt, valuesAt}
 use Rattle.mailaddr.specs.Code.{coded}
 use Rattle.mailaddr.specs.Domain.{isDomain}
-use Rattle.mailaddr.specs.Shape.{Address, unquotedLocal}
+use Rattle.mailaddr.specs.Shape.{Address, isReadable, unquotedLocal}
 use Rattle.table.specs.Table.{Table, Token}
 use Rattle.table.specs.Settle.{Settling, addLevels, begun, noRow, pastBound, pastUnits, settled, settling}
 use Rattle.mapping.specs.Results.{RecordResult, mapped, refusedRecord}
@@ -97,33 +97,36 @@ unfoldable pub hasLocalOther : Address → Bool
 unfolding all isQuotable unquotedLocal
 hasLocalOther a = not (all isQuotable (unquotedLocal a))
 
+-- (The clauses that follow are about reading, and so about a local part that can be read: one for which none of these three holds.)
+
 -- "both readings fail"
 unfoldable pub readsNeither : Address → Bool
-unfolding isNone readSegments keys readName unquotedLocal
-readsNeither a = isNone (readSegments keys (unquotedLocal a)) && isNone (readName (unquotedLocal a))
+unfolding isReadable isNone readSegments keys readName unquotedLocal
+readsNeither a =
+    isReadable (unquotedLocal a) && (isNone (readSegments keys (unquotedLocal a)) && isNone (readName (unquotedLocal a)))
 
 -- the local part is record text, and its segments pass the test
 unfoldable pub onSegments : (List Segment → Bool) → Option (List Segment) → Bool
 onSegments p none = false
 onSegments p (some gs) = p gs
 
-abbrev pub segmentsOf : Address → Option (List Segment)
-unfolding readSegments keys unquotedLocal
-segmentsOf a = readSegments keys (unquotedLocal a)
+unfoldable pub segmentsOf : Address → Option (List Segment)
+unfolding isReadable readSegments keys unquotedLocal
+segmentsOf a = cond (isReadable (unquotedLocal a)) (readSegments keys (unquotedLocal a)) none
 
 -- "a key is unknown"
 unfoldable pub namesUnknown : Address → Bool
-unfolding onSegments hasUnknown
+unfolding segmentsOf onSegments hasUnknown
 namesUnknown a = onSegments hasUnknown (segmentsOf a)
 
 -- "or a key other than OU, DD and the short DD keys is repeated"
 unfoldable pub namesTwice : Address → Bool
-unfolding onSegments hasRepeated
+unfolding segmentsOf onSegments hasRepeated
 namesTwice a = onSegments hasRepeated (segmentsOf a)
 
 -- "or PN meets S, G, I or GQ"
 unfoldable pub namesBoth : Address → Bool
-unfolding onSegments pnMeets
+unfolding segmentsOf onSegments pnMeets
 namesBoth a = onSegments pnMeets (segmentsOf a)
 
 -- "or its value is no name"
@@ -132,7 +135,7 @@ unfolding nonEmpty valuesAt valueAt isNone readName
 isNoName gs = nonEmpty (valuesAt PN-KEY gs) && isNone (readName (valueAt PN-KEY gs))
 
 unfoldable pub namesNoName : Address → Bool
-unfolding onSegments isNoName
+unfolding segmentsOf onSegments isNoName
 namesNoName a = onSegments isNoName (segmentsOf a)
 
 -- "a settled level other than OU is named again"
@@ -144,7 +147,7 @@ againOver pastBound gs = false
 againOver (settled n r) gs = onSegments (namedAgain n) gs
 
 unfoldable pub namesSettled : Table → Address → Bool
-unfolding againOver settledUnder
+unfolding segmentsOf againOver settledUnder
 namesSettled t a = againOver (settledUnder t (a .domain)) (segmentsOf a)
 
 -- Steps 2 to 4, over what step 1 settled.
@@ -156,8 +159,8 @@ readOver pastBound s = unread
 readOver (settled n r) s = readLocal keys n r s
 
 unfoldable pub resultOf : Table → Address → Reading
-unfolding readOver settledUnder unquotedLocal
-resultOf t a = readOver (settledUnder t (a .domain)) (unquotedLocal a)
+unfolding isReadable readOver settledUnder unquotedLocal
+resultOf t a = cond (isReadable (unquotedLocal a)) (readOver (settledUnder t (a .domain)) (unquotedLocal a)) unread
 
 -- one of the four clauses on keys holds
 unfoldable pub hasKeyFault : Address → Bool

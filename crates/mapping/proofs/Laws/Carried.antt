@@ -62,11 +62,6 @@ again-bad (read r) h = true-not-false false h refl
 
 -- ---- a clause that holds
 
-shut : (a b : Bool) (x : Reading) → b ≡ false → isGood (cond (a && b) x unread) ≡ false
-unfolding isGood
-shut true b x h = rw h
-shut false b x h = refl
-
 open-bad : (b : Bool) (x : Reading) → isGood x ≡ false → isGood (cond b x unread) ≡ false
 unfolding isGood
 open-bad true x h = h
@@ -297,42 +292,78 @@ and-false : (a b : Bool) → b ≡ false → (a && b) ≡ false
 and-false true b h = h
 and-false false b h = refl
 
+read-able : (s : List ℕ) → nonEmpty s ≡ true → wellSpaced s ≡ true → all isQuotable s ≡ true → isReadable s ≡ true
+unfolding isReadable
+read-able s a b c = rw (a, b, c)
+
+again-none : (st : Settling) → againOver st none ≡ false
+unfolding againOver onSegments
+again-none noRow = refl
+again-none pastUnits = refl
+again-none pastBound = refl
+again-none (settled n r) = refl
+
 module _ (t : Table) (a : Address) where
   -- the local part cannot be read
   unreadable : isReadable (unquotedLocal a) ≡ false → isGood (readWell t a) ≡ false
-  unfolding readWell
-  unreadable h = shut (isDomain (a .domain)) (isReadable (unquotedLocal a)) (resultOf t a) h
+  unfolding readWell resultOf isGood
+  unreadable h = open-bad (isDomain (a .domain)) (resultOf t a) (rw h)
 
   -- the steps come to no canonical record
   misread : isGood (readOver (settledUnder t (a .domain)) (unquotedLocal a)) ≡ false → isGood (readWell t a) ≡ false
   unfolding readWell resultOf
-  misread h = open-bad (isDomain (a .domain) && isReadable (unquotedLocal a)) (resultOf t a) h
+  misread h =
+      open-bad (isDomain (a .domain)) (resultOf t a) (open-bad (isReadable (unquotedLocal a)) (readOver (settledUnder t (a .domain)) (unquotedLocal a)) h)
 
   -- the domain has another part
   other-domain : isDomain (a .domain) ≡ false → isGood (readWell t a) ≡ false
   unfolding isGood readWell
   other-domain h = rw h
 
+  -- a clause on segments holds of those that are read
+  module _ (f : Option (List Segment) → Bool) where
+    on-read : f none ≡ false → f (segmentsOf a) ≡ true → f (readSegments keys (unquotedLocal a)) ≡ true
+    unfolding segmentsOf
+    on-read n h = by-test (isReadable (unquotedLocal a)) (λ e. rw e at h) (λ e. true-not-false false (sym n ∙ (rw e at h)) refl)
+
+    on-unread : isReadable (unquotedLocal a) ≡ true → f (segmentsOf a) ≡ false → f (readSegments keys (unquotedLocal a)) ≡ false
+    unfolding segmentsOf
+    on-unread e h = rw e at h
+
+  -- what was read is no canonical record
+  result-bad : isGood (resultOf t a) ≡ false → isGood (readWell t a) ≡ false
+  unfolding readWell
+  result-bad h = open-bad (isDomain (a .domain)) (resultOf t a) h
+
+  -- a local part that can be read is read over what is settled
+  over-result : isReadable (unquotedLocal a) ≡ true → resultOf t a ≡ readOver (settledUnder t (a .domain)) (unquotedLocal a)
+  unfolding resultOf
+  over-result e = rw e
+
+  no-fault : namesUnknown a ≡ false → namesTwice a ≡ false → namesBoth a ≡ false → namesNoName a ≡ false → hasKeyFault a ≡ false
+  unfolding hasKeyFault
+  no-fault h9 h10 h11 h12 = rw (h9, h10, h11, h12)
+
   -- no clause holds
   whole : noRowMatches t a ≡ false → hasOtherPart a ≡ false → passesBound t a ≡ false → passesUnits t a ≡ false → isLocalEmpty a ≡ false
       → hasLocalSpaces a ≡ false → hasLocalOther a ≡ false → readsNeither a ≡ false → namesUnknown a ≡ false → namesTwice a ≡ false
       → namesBoth a ≡ false → namesNoName a ≡ false → namesSettled t a ≡ false → isNotCanonical t a ≡ false
       → not (isGood (readWell t a)) ≡ false
-  unfolding isGood readWell resultOf noRowMatches hasOtherPart passesBound passesUnits isLocalEmpty hasLocalSpaces hasLocalOther readsNeither namesSettled isNotCanonical hasKeyFault isReadable
+  unfolding readWell noRowMatches hasOtherPart passesBound passesUnits isLocalEmpty hasLocalSpaces hasLocalOther readsNeither namesSettled isNotCanonical
   whole h1 h2 h3 h4 h5 h6 h7 h8 h9 h10 h11 h12 h13 h14 =
       let st = settledUnder t (a .domain) in
       let s = unquotedLocal a in
+      let e = read-able s (not-false (nonEmpty s) h5) (not-false (wellSpaced s) h6) (not-false (all isQuotable s) h7) in
       rw (
         not-false (isDomain (a .domain)) h2,
-        not-false (nonEmpty s) h5,
-        not-false (wellSpaced s) h6,
-        not-false (all isQuotable s) h7,
-        all-good s st (hasKeyFault a) (settled-is st h1 h3 h4) h8 h13 h14 (rw (h9, h10, h11, h12)),
+        over-result e,
+        all-good s st (hasKeyFault a) (settled-is st h1 h3 h4) (rw e at h8) (on-unread (againOver st) e h13)
+            (ap (isOther (hasKeyFault a)) (sym (over-result e)) ∙ h14) (no-fault h9 h10 h11 h12),
       )
 
   -- document 01: "carried whole"
   pub carried-is : carriedWhole t a ≡ not (isGood (readWell t a))
-  unfolding carriedWhole noRowMatches hasOtherPart passesBound passesUnits isLocalEmpty hasLocalSpaces hasLocalOther readsNeither namesUnknown namesTwice namesBoth namesNoName namesSettled isNotCanonical isReadable
+  unfolding carriedWhole noRowMatches hasOtherPart passesBound passesUnits isLocalEmpty hasLocalSpaces hasLocalOther readsNeither namesUnknown namesTwice namesBoth namesNoName namesSettled isNotCanonical isReadable onSegments
   carried-is =
       let st = settledUnder t (a .domain) in
       let s = unquotedLocal a in
@@ -346,17 +377,16 @@ module _ (t : Table) (a : Address) where
       (λ h. bad-not (unreadable (rw (not-true (nonEmpty s) h))))
       (λ h. bad-not (unreadable (rw (not-true (wellSpaced s) h, and-false (nonEmpty s) false refl))))
       (λ h. bad-not (unreadable (and-false (nonEmpty s && wellSpaced s) (all isQuotable s) (not-true (all isQuotable s) h))))
-      (λ h. bad-not (misread (neither-bad s st h)))
-      (λ h. bad-not (misread (faults-bad s st hasUnknown unknown-none h)))
-      (λ h. bad-not (misread (faults-bad s st hasRepeated repeated-none h)))
-      (λ h. bad-not (misread (faults-bad s st pnMeets both-none h)))
-      (λ h. bad-not (misread (faults-bad s st isNoName name-none h)))
-      (λ h. bad-not (misread (settled-bad s st h)))
-      (λ h. bad-not (misread (other-bad (hasKeyFault a) (resultOf t a) h)))
+      (λ h. bad-not (misread (neither-bad s st (and-right (isReadable s) (isNone (readSegments keys s) && isNone (readName s)) h))))
+      (λ h. bad-not (misread (faults-bad s st hasUnknown unknown-none (on-read (onSegments hasUnknown) refl h))))
+      (λ h. bad-not (misread (faults-bad s st hasRepeated repeated-none (on-read (onSegments hasRepeated) refl h))))
+      (λ h. bad-not (misread (faults-bad s st pnMeets both-none (on-read (onSegments pnMeets) refl h))))
+      (λ h. bad-not (misread (faults-bad s st isNoName name-none (on-read (onSegments isNoName) refl h))))
+      (λ h. bad-not (misread (settled-bad s st (on-read (againOver st) (again-none st) h))))
+      (λ h. bad-not (result-bad (other-bad (hasKeyFault a) (resultOf t a) h)))
       (λ h1 h2 h3 h4 h5 h6 h7 h8 h9 h10 h11 h12 h13 h14. whole h1 h2 h3 h4 h5 h6 h7 h8 h9 h10 h11 h12 h13 h14)
 
   -- where it is not, the record is the one that was read
   pub good-result : isGood (readWell t a) ≡ true → resultOf t a ≡ readWell t a
   unfolding isGood readWell
-  good-result h =
-      by-test (isDomain (a .domain) && isReadable (unquotedLocal a)) (λ e. rw e) (λ e. true-not-false false (rw e at h) refl)
+  good-result h = by-test (isDomain (a .domain)) (λ e. rw e) (λ e. true-not-false false (rw e at h) refl)
