@@ -1,5 +1,7 @@
 pub mod Carried
 pub mod Carrier
+pub mod Clauses
 pub mod Flat
 pub mod Route
 pub mod Steps
+pub mod Whole

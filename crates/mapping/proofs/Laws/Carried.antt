@@ -97,7 +97,7 @@ unsettled pastBound s h = refl
 unsettled (settled n r) s h = true-not-false true refl h
 
 -- a local part read over settled levels, by what it is as record text and as a name
-abbrev over : ℕ → Record → Option (List Segment) → Option Name → Reading
+abbrev pub over : ℕ → Record → Option (List Segment) → Option Name → Reading
 over n r none m = readAsName r m
 over n r (some gs) m = applied n r (some gs)
 
@@ -210,7 +210,7 @@ settled-is (settled n r) a b c = refl
 
 -- over settled levels
 module _ (n : ℕ) (r : Record) (s : List ℕ) where
-  local-over : readOver (settled n r) s ≡ over n r (readSegments keys s) (readName s)
+  pub local-over : readOver (settled n r) s ≡ over n r (readSegments keys s) (readName s)
   unfolding readOver readLocal readText
   local-over = read-over n r s (readSegments keys s)
 
