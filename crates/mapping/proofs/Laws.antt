@@ -1,4 +1,5 @@
 pub mod Carried
+pub mod CarriedBack
 pub mod Carrier
 pub mod Clauses
 pub mod Flat

@@ -1,4 +1,5 @@
 // What the program prints.
+use crate::input::part;
 use libc::STDOUT_FILENO;
 use mapping::to_address::AddressAnswer;
 use mapping::to_address::ToAddress;
@@ -51,33 +52,40 @@ fn print_empty(rec: Record) {
     }
 }
 
-fn print_line(line: usize) {
+// A tab and a number.
+fn print_field(n: usize) {
     say(b"\t");
-    say_number(line);
+    say_number(n);
+}
+
+// A refusal's number, and whether its record is empty.
+fn print_refused(number: &[u8], rec: Record) {
+    say(number);
+    print_empty(rec);
+}
+
+// A record that an address was mapped to.
+fn print_mapped(rec: Record) {
+    say(b"0");
+    print_record(rec);
+}
+
+// A malformed table's first bad line.
+fn print_malformed(line: usize) {
+    say(b"7");
+    print_field(line);
 }
 
 pub fn print_to_record(r: ToRecord) {
     let rec = r.record;
-    match r.answer {
-        RecordAnswer::Done => {
-            say(b"0");
-            print_record(rec);
-        }
-        RecordAnswer::NoShape => {
-            say(b"1");
-            print_empty(rec);
-        }
-        RecordAnswer::TooLong => {
-            say(b"2");
-            print_empty(rec);
-        }
-        RecordAnswer::TooLongCoded => {
-            say(b"3");
-            print_empty(rec);
-        }
+    let answer = r.answer;
+    match answer {
+        RecordAnswer::Done => print_mapped(rec),
+        RecordAnswer::NoShape => print_refused(b"1", rec),
+        RecordAnswer::TooLong => print_refused(b"2", rec),
+        RecordAnswer::TooLongCoded => print_refused(b"3", rec),
         RecordAnswer::Malformed(line) => {
-            say(b"7");
-            print_line(line);
+            print_malformed(line);
             print_empty(rec);
         }
     }
@@ -90,7 +98,7 @@ fn print_front(out: &[u8], n: usize) {
     if out.len() < n {
         say(out);
     } else {
-        say(&out[..n]);
+        say(part(out, 0, n));
     }
 }
 
@@ -108,27 +116,26 @@ fn count_filled(out: &[u8], from: usize) -> usize {
     n
 }
 
+// An address that a record was mapped to.
+fn print_done(out: &[u8], n: usize) {
+    say(b"0");
+    print_front(out, n);
+}
+
 fn print_answer(r: ToAddress, out: &[u8]) {
-    match r.answer {
-        AddressAnswer::Done => {
-            say(b"0");
-            print_front(out, r.size);
-        }
+    let answer = r.answer;
+    match answer {
+        AddressAnswer::Done => print_done(out, r.size),
         AddressAnswer::NotCanonical => say(b"4"),
         AddressAnswer::NoAddress => say(b"5"),
         AddressAnswer::ShortBuffer => say(b"6"),
-        AddressAnswer::Malformed(line) => {
-            say(b"7");
-            print_line(line);
-        }
+        AddressAnswer::Malformed(line) => print_malformed(line),
     }
 }
 
 pub fn print_to_address(r: ToAddress, out: &[u8]) {
     print_answer(r, out);
-    say(b"\t");
-    say_number(r.size);
-    say(b"\t");
-    say_number(count_filled(out, r.size));
+    print_field(r.size);
+    print_field(count_filled(out, r.size));
     say(b"\n");
 }

@@ -44,7 +44,13 @@ fn read_table(name: &[u8], buf: &mut [u8]) -> usize
 fn run_address(table: &[u8], field: &[u8]) {
     let mut bytes = [0u8; LINE_ROOM];
     let n = unhex(&mut bytes, field);
-    print_to_record(address_to_record(table, &bytes[..n]));
+    print_to_record(address_to_record(table, part(&bytes, 0, n)));
+}
+
+// A record to an address, in a buffer.
+fn run_into(table: &[u8], rec: Record, out: &mut [u8]) {
+    let r = record_to_address(table, rec, out);
+    print_to_address(r, out);
 }
 
 // A record to an address, in a buffer of n bytes.
@@ -53,8 +59,7 @@ fn run_record(table: &[u8], rec: Record, n: usize) {
     if OUT_ROOM < n {
         return;
     }
-    let r = record_to_address(table, rec, &mut out[..n]);
-    print_to_address(r, &out[..n]);
+    run_into(table, rec, &mut out[..n]);
 }
 
 // A record text's record; one that does not read is not canonical, as the empty record is not.
@@ -73,7 +78,7 @@ fn record_of(text: &[u8]) -> Record {
 fn run_text(table: &[u8], field: &[u8]) {
     let mut bytes = [0u8; LINE_ROOM];
     let n = unhex(&mut bytes, field);
-    run_record(table, record_of(&bytes[..n]), 2048);
+    run_record(table, record_of(part(&bytes, 0, n)), 2048);
 }
 
 // A further attribute, from one field or two.
@@ -81,7 +86,7 @@ fn change(rec: Record, tag: u8, field: &[u8]) -> Record {
     let mut bytes = [0u8; LINE_ROOM];
     let stop = end_of(field, 0, b'\t');
     let n = unhex(&mut bytes, part(field, 0, stop));
-    let first = &bytes[..n];
+    let first = part(&bytes, 0, n);
     match tag {
         b'V' => with_value(rec, first),
         b'U' => with_unit(rec, first),
@@ -89,7 +94,7 @@ fn change(rec: Record, tag: u8, field: &[u8]) -> Record {
         b'D' => {
             let mut more = [0u8; LINE_ROOM];
             let m = unhex(&mut more, from(field, stop + 1));
-            with_dd(rec, first, &more[..m])
+            with_dd(rec, first, part(&more, 0, m))
         }
         _ => Record::empty(),
     }
@@ -146,7 +151,7 @@ fn run_table(s: &[u8], at: usize) -> usize
     let end = end_of(s, at, b'\n');
     let mut space = [0u8; TABLE_ROOM];
     let n = read_table(part(s, at + 2, end), &mut space);
-    run_lines(s, end + 1, &space[..n])
+    run_lines(s, end + 1, part(&space, 0, n))
 }
 
 pub fn run(s: &[u8])

@@ -1,5 +1,6 @@
 pub mod Fields
 pub mod FirstBad
+pub mod Formed
 pub mod Keys
 pub mod Load
 pub mod Lookup
@@ -7,4 +8,5 @@ pub mod Marks
 pub mod Paths
 pub mod Rows
 pub mod Settle
+pub mod Settled
 pub mod Tails

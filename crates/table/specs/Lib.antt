@@ -1,4 +1,5 @@
 pub mod FirstBad
+pub mod Formed
 pub mod Keys
 pub mod Levels
 pub mod Lines

@@ -38,7 +38,7 @@ abbrev pub accepts : ℕ → ℕ → List Token → Bool
 accepts tag most fs = hasTag tag fs && isRow most (rowOf fs)
 
 -- a D row is no R row
-one-tag : (fs : List Token) → hasTag 68 fs ≡ true → hasTag 82 fs ≡ false
+pub one-tag : (fs : List Token) → hasTag 68 fs ≡ true → hasTag 82 fs ≡ false
 unfolding hasTag equalText agree
 one-tag fs h = rw (equal-path (getD fs 0 []) (68 ∷ []) h)
 

@@ -1,0 +1,61 @@
+-- `mapping_cases::print::print_text` is safe: there is room for the text of a canonical record.
+-- Assumes nothing.
+use borrow.Author.Needs.{needs}
+use mathlib.Core.Path.{sym}
+use native.Mathlib.Omega.{arith}
+use lib.Seq.{length-take-le}
+use Rattle.oraddr.specs.View.{view}
+use Rattle.oraddr.proofs.Laws.Canonical.{canonical-view}
+use Rattle.ortext.proofs.Laws.Write.{text-bound}
+use Rattle.mapping_cases.proofs.print.print_text.Statement.{statement}
+use Rattle.mapping_cases.proofs.print.print_text.Tie as tie
+
+slice-aggregate-write-text : tie.Need-slice-aggregate-write-text
+slice-aggregate-write-text c = search needs
+
+write-text-requires : tie.Need-write-text-requires
+write-text-requires c κs =
+    let s = c .before in
+    let r = s .args .rec in
+    let l = text-bound (view r) (canonical-view r (s .pre)) 0 in
+    omega (arith, l)
+
+slice-aggregate-say : tie.Need-slice-aggregate-say
+slice-aggregate-say c = search needs
+
+say-requires : tie.Need-say-requires
+say-requires c κs = search needs
+
+array-share-prefix-out : tie.Need-array-share-prefix-out
+array-share-prefix-out c =
+    let s = c .before .before .before .before .before in
+    let r = s .args .rec in
+    let l = text-bound (view r) (canonical-view r (s .pre)) 0 in
+    omega (arith, l, c .before .before .before .write-text .ensures .moved)
+
+slice-aggregate-say-2 : tie.Need-slice-aggregate-say-2
+slice-aggregate-say-2 c =
+    let s = c .before .before .before .before .before .before in
+    let r = s .args .rec in
+    let l = text-bound (view r) (canonical-view r (s .pre)) 0 in
+    let w = c .before .before .before .before .write-text in
+    sym (length-take-le (w .result) (w .last .0) (omega (arith, l, w .ensures .moved)))
+
+say-requires-2 : tie.Need-say-requires-2
+say-requires-2 c κs = search needs
+
+returns : tie.Need-returns
+returns c = search needs
+
+pub print-text-spec : {M : Type 1} → statement M
+print-text-spec =
+    tie.close
+    (tie.spec
+    slice-aggregate-write-text
+    write-text-requires
+    slice-aggregate-say
+    say-requires
+    array-share-prefix-out
+    slice-aggregate-say-2
+    say-requires-2
+    returns)
