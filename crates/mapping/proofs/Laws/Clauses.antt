@@ -11,7 +11,7 @@ use Rattle.chars.specs.Lists.{bytes}
 use Rattle.chars.specs.Spaces.{adjacent}
 use Rattle.mailaddr.specs.Shape.{Address, shapeOf}
 use Rattle.table.specs.Table.{Row, Table}
-use Rattle.mapping.specs.Carried.{hasLocalOther, hasLocalSpaces, hasOtherPart, isLocalEmpty, isNotCanonical, namesBoth, namesNoName, namesSettled, namesTwice, namesUnknown, noRowMatches, passesBound, passesUnits, readsNeither}
+use Rattle.mapping.specs.Carried.{carriedWhole, hasLocalOther, hasLocalSpaces, hasOtherPart, isLocalEmpty, isNotCanonical, namesBoth, namesNoName, namesSettled, namesTwice, namesUnknown, noRowMatches, passesBound, passesUnits, readsNeither}
 
 -- document 01's table of `orroute`, and a row that settles all levels but OU4
 unfoldable pub ports : Table
@@ -38,6 +38,16 @@ clauses (some a) =
 unfoldable pub holding : List ℕ → List Bool
 unfolding clauses shapeOf
 holding s = clauses (shapeOf s)
+
+-- whether an address of accepted shape is carried whole
+unfoldable pub isCarried : Option Address → Bool
+unfolding ports carriedWhole
+isCarried none = false
+isCarried (some a) = carriedWhole ports a
+
+unfoldable pub carriedText : List ℕ → Bool
+unfolding isCarried shapeOf
+carriedText s = isCarried (shapeOf s)
 
 -- of fourteen, the one with the number k, from 1; none with 0
 abbrev pub numbers : List ℕ
@@ -92,3 +102,12 @@ each-alone = refl
 pub none-beside : map holding beside ≡ map (λ _. only 0) numbers
 unfolding holding beside adjacent bytes
 none-beside = refl
+
+-- so the one is carried whole, and the other is not
+pub alone-carried : map carriedText alone ≡ map (λ _. true) numbers
+unfolding carriedText alone adjacent bytes
+alone-carried = refl
+
+pub beside-mapped : map carriedText beside ≡ map (λ _. false) numbers
+unfolding carriedText beside adjacent bytes
+beside-mapped = refl
