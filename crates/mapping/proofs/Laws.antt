@@ -4,5 +4,6 @@ pub mod Carrier
 pub mod Clauses
 pub mod Flat
 pub mod Route
+pub mod Sent
 pub mod Steps
 pub mod Whole

@@ -22,7 +22,7 @@ pub enum Found {
 }
 
 // Whether a row's domain, from `a` to `b` in the table text, is a tail of a domain by whole parts.
-fn is_tail(text: &[u8], a: usize, b: usize, domain: &[u8]) -> bool
+pub fn is_tail(text: &[u8], a: usize, b: usize, domain: &[u8]) -> bool
     requires { ⌜ (a ≤ b) × (b ≤ length (now text)) ⌝ }
     ensures { λ r. ⌜ r ≡ begins (partsOf (between (now (text .entry)) a b)) (partsOf (now (domain .entry))) ⌝ }
 {

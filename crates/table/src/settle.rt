@@ -64,7 +64,7 @@ fn count_left(domain: &[u8], start: usize) -> usize
 }
 
 // Adds a token at level k; an omitted level adds nothing.
-fn add_level(rec: Record, k: usize, token: &[u8]) -> Addition
+pub fn add_level(rec: Record, k: usize, token: &[u8]) -> Addition
     ensures { λ r. ⌜ told r ≡ addLevel k (now (token .entry)) rec ⌝ }
 {
     if token.len() == 0 {
@@ -194,7 +194,7 @@ fn settle_front(done: Addition, domain: &[u8], start: usize, k: usize, n: usize)
 }
 
 // The levels of a row's path and then the parts of what a domain has in front of the row's domain.
-fn settle_row(text: &[u8], row: Row, domain: &[u8]) -> Settlement
+pub fn settle_row(text: &[u8], row: Row, domain: &[u8]) -> Settlement
     requires { ⌜ RowInside (now text) row ⌝ }
     requires { ⌜ row .«domain_end» - row .domain ≤ length (now domain) ⌝ }
     ensures { λ r. ⌜ settlementAnswer r ≡ settledFrom (some (rowAt (now (text .entry)) row .path ++ leftParts (now (domain .entry)) (length (now (domain .entry)) - (row .«domain_end» - row .domain)))) ⌝ }

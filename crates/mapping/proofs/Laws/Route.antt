@@ -157,7 +157,7 @@ module _ (s ds rs : List ℕ) (t : load.Loaded.Loaded) where
   plan-table ls none = refl
   plan-table ls (some r) = refl
 
-  address-table : (r : Record) (old : List ℕ) → toAddress (outward s rs t) r old ≡ toAddress (tableAt s ds rs t) r old
+  pub address-table : (r : Record) (old : List ℕ) → toAddress (outward s rs t) r old ≡ toAddress (tableAt s ds rs t) r old
   unfolding toAddress addressOf isCarrier plan tableAt
   address-table r old =
       let a : Attributes = view r in

@@ -315,7 +315,7 @@ module _ (t : Table) (d : List ℕ) (n : ℕ) (r : Record) where
       let z : _≡_ {A = ℕ} 0 1 = cc in absurd (omega arith))
       (λ e. by-outcome ts g f (rw e at h))
 
-  by-domain : settledUnder t d ≡ settled n r → SettledBy t d n r
+  pub by-domain : settledUnder t d ≡ settled n r → SettledBy t d n r
   unfolding settledUnder settling
   by-domain h =
       by-test (isGateway t d)
@@ -352,7 +352,7 @@ whole-record t a q h =
 
 -- ---- of address to record
 
-good-read : (x : Reading) → isGood x ≡ true → x ≡ read (recordIn x)
+pub good-read : (x : Reading) → isGood x ≡ true → x ≡ read (recordIn x)
 unfolding isGood recordIn
 good-read unread h = true-not-false false h refl
 good-read refused h = true-not-false false h refl

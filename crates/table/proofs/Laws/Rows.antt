@@ -30,14 +30,14 @@ use Rattle.table.specs.declared.rows.Key.{Key}
 
 -- ---- paths
 
-agree-fold : (ps qs : List Token) → map foldText ps ≡ map foldText qs → agree sameText ps qs ≡ true
+pub agree-fold : (ps qs : List Token) → map foldText ps ≡ map foldText qs → agree sameText ps qs ≡ true
 unfolding agree
 agree-fold [] [] h = refl
 agree-fold [] (q ∷ qs) h = let z : _≡_ {A = ℕ} 0 1 = cc in absurd (omega arith)
 agree-fold (p ∷ ps) [] h = let z : _≡_ {A = ℕ} 0 1 = cc in absurd (omega arith)
 agree-fold (p ∷ ps) (q ∷ qs) h = and-both (same-of p q (cc)) (agree-fold ps qs (cc))
 
-fold-agree : (ps qs : List Token) → agree sameText ps qs ≡ true → map foldText ps ≡ map foldText qs
+pub fold-agree : (ps qs : List Token) → agree sameText ps qs ≡ true → map foldText ps ≡ map foldText qs
 unfolding agree
 fold-agree [] [] h = refl
 fold-agree [] (q ∷ qs) h = true-not-false true refl (sym h)

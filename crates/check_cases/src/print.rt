@@ -1,0 +1,34 @@
+// What the program prints.
+use crate::witness::is_lost;
+use libc::STDOUT_FILENO;
+use oraddr::record::Record;
+use soundness::check::CheckAnswer;
+use soundness::check::Checked;
+
+fn say(s: &[u8]) {
+    io::write_all(STDOUT_FILENO, s);
+}
+
+fn print_line(line: usize) {
+    say(b"7 ");
+    io::print_decimal(STDOUT_FILENO, line as u64);
+    say(b"\n");
+}
+
+fn print_witness(table: &[u8], rec: Record) {
+    if is_lost(table, rec) {
+        say(b"8 lost\n");
+    } else {
+        say(b"8 kept\n");
+    }
+}
+
+pub fn print_verdict(table: &[u8], done: Checked) {
+    let rec = done.record;
+    let answer = done.answer;
+    match answer {
+        CheckAnswer::Sound => say(b"0\n"),
+        CheckAnswer::Unsound => print_witness(table, rec),
+        CheckAnswer::Malformed(line) => print_line(line),
+    }
+}

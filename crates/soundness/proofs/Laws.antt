@@ -1,0 +1,16 @@
+pub mod Accept
+pub mod Agree
+pub mod Came
+pub mod Candidates
+pub mod Comes
+pub mod First
+pub mod Fits
+pub mod Folded
+pub mod Fresh
+pub mod Judged
+pub mod Look
+pub mod Marks
+pub mod Reading
+pub mod SameCarrier
+pub mod Sound
+pub mod Told
