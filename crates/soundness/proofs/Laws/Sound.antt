@@ -171,6 +171,33 @@ under-levels fits T r L levels best =
       within = and-left (fitsFrom fits k x) (fitsFrom fits (k + length x) y) front-within;
     }
 
+-- Of every R row and every extension x that levels under that row can have, the domain with x in front is not the gateway's, and it resolves
+-- to the row's path followed by x. (It speaks of the gateway only where it says that the domain is another one.)
+abbrev pub Owned : (ℕ → Tok → Bool) → Table → Type 0
+Owned fits T = (r : Row) (x : List Tok) → Under fits T r x → (r .val ++ x ≡ T .g → ⊥) × (resolve T (r .val ++ x) ≡ some (r .key ++ x))
+
+-- then all levels come back
+pub owned-back : (fits : ℕ → Tok → Bool) (T : Table) → Formed T → Owned fits T → (L : List Tok) → Levels fits L → Back T L
+owned-back fits T formed owned L levels = case (look (T .R) L) (found (T .R) L)
+  where
+    case : (o : Option Row) → Answer (T .R) L o → BackBy T L o
+    case none f = tt
+    case (some r) best =
+        let rest : List Tok = drop (length (r .key)) L in
+        let x : List Tok = ext rest in
+        let y : List Tok = drop (length x) rest in
+        let back = owned r x (under-levels fits T r L levels best) in
+        let whole : r .key ++ x ++ y ≡ L =
+        append-assoc (r .key) x y ∙ ap (λ (s : List Tok). r .key ++ s) (ext-front rest) ∙ begins-cut (r .key) L (best .fits) in
+        let full : all nonEmpty (drop 4 (r .key)) ≡ true =
+        ap (all nonEmpty) (sym (drop-drop 1 3 (r .key))) ∙ all-drop nonEmpty 1 (drop 3 (r .key)) (formed .pathR r (best .mem) .full) in
+        record {
+          away = back .0;
+          by = r .key ++ x;
+          settles = back .1;
+          agrees = subst (Agree 4 (r .key ++ x) (length (r .key ++ x))) whole (agree-own 4 (r .key ++ x) y (full-append 4 (r .key) x full (parts-full x (ext-parts rest))));
+        }
+
 -- what comes back with nothing in front of the row's domain
 alone : (T : Table) (r : Row) (L : List Tok) → Comes T r [] L
     → (r .val ≡ T .g → ⊥) × ((S : List Tok) × (resolve T (r .val) ≡ some S) × Agree 4 S (length (r .key)) L)
@@ -328,30 +355,12 @@ module _ (fits : ℕ → Tok → Bool) (T : Table) (formed : Formed T) (checked 
           (λ e. far r x u b best (leb-false (length (b .key)) (length (r .val)) e))
 
   -- a row's domain with levels in front is not the gateway's, and resolves to the row's path with those levels behind
-  pub own : (r : Row) (x : List Tok) → Under fits T r x → (r .val ++ x ≡ T .g → ⊥) × (resolve T (r .val ++ x) ≡ some (r .key ++ x))
+  pub own : Owned fits T
   own r x u = (own-away r x u, own-resolves r x u)
 
   -- all levels come back
   pub sound : (L : List Tok) → Levels fits L → Back T L
-  sound L levels = case (look (T .R) L) (found (T .R) L)
-    where
-      case : (o : Option Row) → Answer (T .R) L o → BackBy T L o
-      case none f = tt
-      case (some r) best =
-          let rest : List Tok = drop (length (r .key)) L in
-          let x : List Tok = ext rest in
-          let y : List Tok = drop (length x) rest in
-          let back = own r x (under-levels fits T r L levels best) in
-          let whole : r .key ++ x ++ y ≡ L =
-          append-assoc (r .key) x y ∙ ap (λ (s : List Tok). r .key ++ s) (ext-front rest) ∙ begins-cut (r .key) L (best .fits) in
-          let full : all nonEmpty (drop 4 (r .key)) ≡ true =
-          ap (all nonEmpty) (sym (drop-drop 1 3 (r .key))) ∙ all-drop nonEmpty 1 (drop 3 (r .key)) (formed .pathR r (best .mem) .full) in
-          record {
-            away = back .0;
-            by = r .key ++ x;
-            settles = back .1;
-            agrees = subst (Agree 4 (r .key ++ x) (length (r .key ++ x))) whole (agree-own 4 (r .key ++ x) y (full-append 4 (r .key) x full (parts-full x (ext-parts rest))));
-          }
+  sound L levels = owned-back fits T formed own L levels
 
 -- ---- the other way: the candidates are levels, so they come back where all do
 
@@ -376,3 +385,7 @@ checked-back fits T formed back supply =
 
     with-one : (r : Row) → List·Memᴰ r (T .R) → (f : Tok) → fits (length (r .key)) f ≡ true → length (r .key) < 8 → Back T (pad (r .key ++ f ∷ []))
     with-one r m f h l = behind-path r m (f ∷ []) (omega arith) (and-both h refl)
+
+-- A table is accepted exactly when its rows' domains are owned so: what the check finds out, without its candidates.
+pub accepted-exactly : (fits : ℕ → Tok → Bool) (T : Table) → Formed T → Supply fits T → (Checked fits T → Owned fits T) × (Owned fits T → Checked fits T)
+accepted-exactly fits T formed supply = (λ c. own fits T formed c, λ o. checked-back fits T formed (owned-back fits T formed o) supply)
