@@ -1,6 +1,7 @@
 -- What the check's candidates are, and what its judgements say.
 -- Assumes nothing.
 use mathlib.Core.Path.{_≡_}
+use mathlib.Core.Logic.{_⊎_}
 use mathlib.Core.Bool.{Bool, true, false}
 use mathlib.Core.List.{List, [], _++_, List·Memᴰ}
 use Prim.Native.Nat.{ℕ, _+_, _≤_}
@@ -70,9 +71,46 @@ pub record AllUnder (t : Table) (r : Row) : Type 0 where
 abbrev pub AllSecond : Table → Type 0
 AllSecond t = (r : Row) → List·Memᴰ r (t .toDomain) → AllUnder t r
 
--- Demand 3, of a table text: 7 with the first bad line, 0 for a table that is sound, 8 with a witness for one that is not.
-abbrev pub CheckedBy : Loaded → CheckAnswer → Record → Type 0
-CheckedBy (malformed n) (answer.Malformed l) r = (l ≡ n) × (r ≡ emptyRecord)
-CheckedBy (malformed n) answer.Sound r = ⊥
-CheckedBy (malformed n) answer.Unsound r = ⊥
-CheckedBy (wellFormed t) c r = JudgedBy t (Sound t) c r
+-- document 01's number for each answer of the check, and the line
+abbrev pub checkNumber : CheckAnswer → ℕ
+checkNumber answer.Sound = 0
+checkNumber answer.Unsound = 8
+checkNumber (answer.Malformed l) = 7
+
+abbrev pub checkLine : CheckAnswer → ℕ
+checkLine answer.Sound = 0
+checkLine answer.Unsound = 0
+checkLine (answer.Malformed l) = l
+
+-- What a caller gets of the check: the number, the line with 7 (else 0), a witness with 8 (else an empty record).
+pub record CheckResult : Type 0 where
+  pub number : ℕ
+  pub line : ℕ
+  pub record' : Record
+
+abbrev pub toldCheck : Checked → CheckResult
+toldCheck c = record { number = checkNumber (c .answer); line = checkLine (c .answer); record' = c .«record» }
+
+-- 7, "the table is malformed": "number of the first bad line; empty record"
+pub record IsMalformed (n : ℕ) (o : CheckResult) : Type 0 where
+  pub number : o .number ≡ 7
+  pub line : o .line ≡ n
+  pub empty : o .record' ≡ emptyRecord
+
+-- 0, "done": an empty record, and "every canonical record that is no carrier comes back under it"
+pub record IsAccepted (t : Table) (o : CheckResult) : Type 0 where
+  pub number : o .number ≡ 0
+  pub line : o .line ≡ 0
+  pub empty : o .record' ≡ emptyRecord
+  pub sound : Sound t
+
+-- 8, "well formed, but unsound": "a witness record"
+pub record IsRefused (t : Table) (o : CheckResult) : Type 0 where
+  pub number : o .number ≡ 8
+  pub line : o .line ≡ 0
+  pub witness : Witness t (o .record')
+
+-- Demand 3, of what a table text comes to. (A sound table has no witness, so each number is given exactly when it is said.)
+abbrev pub Demand3 : Loaded → CheckResult → Type 0
+Demand3 (malformed n) o = IsMalformed n o
+Demand3 (wellFormed t) o = IsAccepted t o ⊎ IsRefused t o

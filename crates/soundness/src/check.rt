@@ -38,7 +38,7 @@ ghost use Rattle.table.specs.Formed.{Formed};
 ghost use Rattle.table.specs.Lines.{loadedFrom};
 ghost use Rattle.table.specs.Load.{Kept};
 ghost use Rattle.table.specs.Rows.{RowInside, rowAt, tableAt};
-ghost use Rattle.soundness.specs.Check.{AllFirst, AllSecond, AllUnder, CheckedBy, FirstBack, Judged, SecondBack, isSound};
+ghost use Rattle.soundness.specs.Check.{AllFirst, AllSecond, AllUnder, Demand3, FirstBack, Judged, SecondBack, isSound, toldCheck};
 ghost use Rattle.soundness.specs.Folded.{domainRow, tokensOf};
 ghost use Rattle.soundness.specs.declared.check.CheckAnswer.the-variants.{Sound as SoundAnswer};
 ghost use Rattle.soundness.specs.Tokens.{Back, Tried, pad};
@@ -361,7 +361,7 @@ fn check_loaded(text: &[u8], to_path: &[usize], to_domain: &[usize], table: Load
 
 // The check of a table text.
 pub fn check(table: &[u8]) -> Checked
-    ensures { λ r. ⌜ CheckedBy (loadedFrom (now (table .entry))) (r .answer) (r .«record») ⌝ }
+    ensures { λ r. ⌜ Demand3 (loadedFrom (now (table .entry))) (toldCheck r) ⌝ }
 {
     let mut to_path = [0usize; ROWS_SIZE];
     let mut to_domain = [0usize; ROWS_SIZE];

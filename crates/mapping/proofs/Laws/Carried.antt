@@ -15,7 +15,7 @@ use Rattle.oraddr.specs.Add.{Outcome}
 use Rattle.oraddr.specs.Attributes.{Attributes}
 use Rattle.oraddr.specs.Canonical.{canonicalRecord}
 use Rattle.oraddr.specs.declared.record.Record.{Record}
-use Rattle.ortext.specs.Apply.{Reading, addAll, addNamed, again, applied, complete, finish, hasEmpty, hasRepeated, hasUnknown, nameAlone, named, namedAgain, nameOf, orName, pnMeets, read, readAsName, readLocal, readText, refused, unread, valueAt, valuesAt, withName}
+use Rattle.ortext.specs.Apply.{Reading, addAll, addNamed, again, applied, finish, hasEmpty, hasRepeated, hasUnknown, nameAlone, named, namedAgain, nameOf, orName, pnMeets, read, readAsName, readLocal, readText, refused, unread, valueAt, valuesAt, withName}
 use Rattle.ortext.specs.Keys.{keys, PN-KEY}
 use Rattle.ortext.specs.Name.{Name, readName}
 use Rattle.ortext.specs.Segments.{Segment, readSegments}

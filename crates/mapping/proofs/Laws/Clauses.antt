@@ -10,7 +10,7 @@ use lib.Dec.{eqb}
 use Rattle.chars.specs.Lists.{bytes}
 use Rattle.chars.specs.Spaces.{adjacent}
 use Rattle.mailaddr.specs.Shape.{Address, shapeOf}
-use Rattle.table.specs.Table.{Row, Table}
+use Rattle.table.specs.Table.{Table}
 use Rattle.mapping.specs.Carried.{carriedWhole, hasLocalOther, hasLocalSpaces, hasOtherPart, isLocalEmpty, isNotCanonical, namesBoth, namesNoName, namesSettled, namesTwice, namesUnknown, noRowMatches, passesBound, passesUnits, readsNeither}
 
 -- document 01's table of `orroute`, and a row that settles all levels but OU4

@@ -2,7 +2,7 @@
 -- address to record reads only the gateway and the rows to a path.
 -- Assumes nothing.
 use mathlib.Core.Path.{_≡_, refl, sym, ap, _∙_}
-use mathlib.Core.Bool.{true, false, _&&_, cond}
+use mathlib.Core.Bool.{true, false}
 use mathlib.Core.List.{List, []}
 use Prim.Native.Nat.{ℕ}
 use Rattle.chars.proofs.Laws.Lists.{by-test, true-not-false}

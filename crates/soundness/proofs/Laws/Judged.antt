@@ -2,7 +2,7 @@
 -- candidates of all rows come back.
 -- Assumes nothing.
 use mathlib.Core.Path.{_≡_, refl, sym, ap, subst, _∙_}
-use mathlib.Core.Logic.{⊎-elim}
+use mathlib.Core.Logic.{_⊎_, inl, inr, ⊎-elim}
 use mathlib.Core.Bool.{true, false}
 use mathlib.Core.List.{List, [], _∷_, _++_, map, List·Memᴰ, List·Memᴰ·head, List·Memᴰ·tail, List·Memᴰ·cases-cons, List·Memᴰ·not-nil}
 use mathlib.Core.Option.{some}
@@ -27,7 +27,8 @@ use Rattle.table.specs.Settle.{Settling, addLevels, begun, noRow, pastBound, pa
 use Rattle.table.specs.declared.line as line
 use Rattle.table.specs.declared.load as load
 use Rattle.table.proofs.Laws.Fields.{between-length}
-use Rattle.soundness.specs.Check.{AllFirst, AllSecond, Judged, JudgedBy, isSound}
+use Rattle.soundness.specs.Check.{AllFirst, AllSecond, IsAccepted, IsRefused, Judged, JudgedBy, checkLine, checkNumber, isSound, toldCheck}
+use Rattle.soundness.specs.Sound.{Sound}
 use Rattle.soundness.specs.Fits.{fits}
 use Rattle.soundness.specs.Folded.{domainRow, pathRow, tokensOf}
 use Rattle.soundness.specs.Tokens as tokens
@@ -180,3 +181,14 @@ all-checked t first second =
           (b .0) (b .1) (b .2))
           target);
     }
+
+-- ---- what the check's caller is told
+
+pub told-judged : (t : Table) (c : check.Checked.Checked) → Judged t (Sound t) c → IsAccepted t (toldCheck c) ⊎ IsRefused t (toldCheck c)
+told-judged t c j = told (c .answer) (c .«record») j
+  where
+    told : (a : check.CheckAnswer.CheckAnswer) (r : Record) → JudgedBy t (Sound t) a r
+        → IsAccepted t (record { number = checkNumber a; line = checkLine a; record' = r }) ⊎ IsRefused t (record { number = checkNumber a; line = checkLine a; record' = r })
+    told answer.Sound r h = inl (record { number = refl; line = refl; empty = h .1; sound = h .0 })
+    told answer.Unsound r h = inr (record { number = refl; line = refl; witness = h })
+    told (answer.Malformed l) r h = absurd h

@@ -1,9 +1,7 @@
 -- `mapping::to_record::is_good` meets its contract.
 -- Assumes nothing.
-use mathlib.Core.Path.{sym, ap, _∙_}
 use borrow.Author.Needs.{needs}
 use Rattle.ortext.specs.Answers.{answered, reading}
-use Rattle.ortext.specs.declared.read.Answer.{Answer}
 use Rattle.mapping.specs.Answers.{isGood}
 use Rattle.mapping.proofs.to_record.is_good.Statement.{statement}
 use Rattle.mapping.proofs.to_record.is_good.Tie as tie

@@ -1,6 +1,6 @@
 -- `mapping::to_record::map_shaped` meets its contract: an address is carried whole exactly where what was read is no canonical record.
 -- Assumes nothing.
-use mathlib.Core.Path.{_≡_, sym, ap, _∙_}
+use mathlib.Core.Path.{sym, ap, _∙_}
 use borrow.Author.Needs.{needs}
 use Rattle.mailaddr.specs.Answers.{addressAt}
 use Rattle.mapping.specs.Answers.{inward, isGood, recordLine, recordNumber, toldRecord}

@@ -1,6 +1,5 @@
 -- `mapping::to_record::read_over` meets its contract.
 -- Assumes nothing.
-use mathlib.Core.Path.{_∙_}
 use borrow.Author.Needs.{needs}
 use Rattle.chars.proofs.Laws.Lists.{failed, passed}
 use Rattle.mapping.specs.Answers.{readSettled}

@@ -1,12 +1,10 @@
 -- `mapping::to_record::read_under` meets its contract: the unquoted local part stands at the front of the buffer.
 -- Assumes nothing.
 use mathlib.Core.Path.{ap, _∙_}
-use mathlib.Core.List.{List}
-use Prim.Native.Nat.{ℕ, _≤_}
+use Prim.Native.Nat.{_≤_}
 use native.Mathlib.Omega.{arith}
 use borrow.Author.Needs.{needs}
 use lib.ListN.{length, length-take}
-use Rattle.mailaddr.specs.Answers.{localAt}
 use Rattle.mapping.specs.Answers.{readSettled}
 use Rattle.chars.proofs.Laws.Write.{wrote-taken}
 use Rattle.mailaddr.proofs.Laws.Shaped.{local-length}
