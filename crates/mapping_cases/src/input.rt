@@ -1,9 +1,10 @@
 // Lines and fields of the input, and bytes that are written as pairs of hexadecimal digits.
-ghost use Prim.Native.Nat.{_<_, _≤_};
-ghost use lib.ListN.{length};
+ghost use mathlib.Core.Path.{_≡_};
+ghost use Prim.Native.Nat.{_-_, _<_, _≤_};
+ghost use lib.ListN.{drop, length, take};
 
 // Where the part that starts at a place ends: at the next separator, or at the end of the text.
-pub fn end_of(s: &[u8], from: usize, sep: u8) -> usize
+pub(crate) fn end_of(s: &[u8], from: usize, sep: u8) -> usize
     requires { ⌜ from ≤ length (now s) ⌝ }
     ensures { λ r. ⌜ (from ≤ r) × (r ≤ length (now (s .entry))) ⌝ }
 {
@@ -11,8 +12,9 @@ pub fn end_of(s: &[u8], from: usize, sep: u8) -> usize
 }
 
 // What stands from a place up to another, or nothing where the first is past the second.
-pub fn part(s: &[u8], from: usize, end: usize) -> &[u8]
+pub(crate) fn part(s: &[u8], from: usize, end: usize) -> &[u8]
     requires { ⌜ end ≤ length (now s) ⌝ }
+    ensures { λ r. ⌜ now r ≡ take (end - from) (drop from (now (s .entry))) ⌝ }
 {
     if end < from {
         return &s[end..end];
@@ -21,28 +23,30 @@ pub fn part(s: &[u8], from: usize, end: usize) -> &[u8]
 }
 
 // What stands from a place on.
-pub fn from(s: &[u8], at: usize) -> &[u8] {
+pub(crate) fn from(s: &[u8], at: usize) -> &[u8]
+    ensures { λ r. ⌜ now r ≡ drop at (now (s .entry)) ⌝ }
+{
     if s.len() < at {
         return &s[0..0];
     }
     &s[at..]
 }
 
-pub fn wide(b: u8) -> usize
+pub(crate) fn wide(b: u8) -> usize
     ensures { λ r. ⌜ r < 256 ⌝ }
 {
     b as usize
 }
 
 // The byte at a place, 0 past the end.
-pub fn byte_at(s: &[u8], at: usize) -> usize
+pub(crate) fn byte_at(s: &[u8], at: usize) -> usize
     ensures { λ r. ⌜ r < 256 ⌝ }
 {
     if at < s.len() { wide(s[at]) } else { 0 }
 }
 
 // The length that the first two bytes say.
-pub fn size_at(s: &[u8]) -> usize {
+pub(crate) fn size_at(s: &[u8]) -> usize {
     let n = byte_at(s, 0) * 256 + byte_at(s, 1);
     if n == 65535 { 0xffff_ffff_ffff_ffff } else { n }
 }
@@ -72,7 +76,7 @@ fn digit(b: u8) -> u8
 }
 
 // Writes the bytes that pairs of digits spell to the front of `dst`, as many as there is room for, and returns how many.
-pub fn unhex(dst: &mut [u8], s: &[u8]) -> usize
+pub(crate) fn unhex(dst: &mut [u8], s: &[u8]) -> usize
     ensures { λ r. ⌜ r ≤ length (now (dst .exit)) ⌝ }
 {
     let mut n = 0;

@@ -17,9 +17,9 @@ ghost use Rattle.oraddr.specs.Canonical.{canonicalRecord};
 const ROOM: usize = 2304;
 
 // What a buffer is filled with: a byte that no address has.
-pub const FILLED: u8 = 255;
+pub(crate) const FILLED: u8 = 255;
 
-pub fn say(s: &[u8]) {
+pub(crate) fn say(s: &[u8]) {
     io::write_all(STDOUT_FILENO, s);
 }
 
@@ -76,7 +76,7 @@ fn print_malformed(line: usize) {
     print_field(line);
 }
 
-pub fn print_to_record(r: ToRecord) {
+pub(crate) fn print_to_record(r: ToRecord) {
     let rec = r.record;
     let answer = r.answer;
     match answer {
@@ -133,7 +133,7 @@ fn print_answer(r: ToAddress, out: &[u8]) {
     }
 }
 
-pub fn print_to_address(r: ToAddress, out: &[u8]) {
+pub(crate) fn print_to_address(r: ToAddress, out: &[u8]) {
     print_answer(r, out);
     print_field(r.size);
     print_field(count_filled(out, r.size));

@@ -28,7 +28,7 @@ fn fill(dst: &mut [u8], s: &[u8]) {
 }
 
 // The value with a number: a length, and what stands at the front of its room.
-pub fn with_value(rec: Record, s: &[u8]) -> Record {
+pub(crate) fn with_value(rec: Record, s: &[u8]) -> Record {
     let k = byte_at(s, 0);
     let rest = from(s, 1);
     let mut bytes = [0u8; VALUE_ROOM];
@@ -45,7 +45,7 @@ pub fn with_value(rec: Record, s: &[u8]) -> Record {
     next
 }
 
-pub fn with_unit(rec: Record, s: &[u8]) -> Record {
+pub(crate) fn with_unit(rec: Record, s: &[u8]) -> Record {
     let mut bytes = [0u8; OU_ROOM];
     fill(&mut bytes, from(s, 2));
     let mut next = rec;
@@ -80,7 +80,7 @@ fn dd_value(s: &[u8]) -> DdValue {
     }
 }
 
-pub fn with_dd(rec: Record, s: &[u8], t: &[u8]) -> Record {
+pub(crate) fn with_dd(rec: Record, s: &[u8], t: &[u8]) -> Record {
     let item = DomainDefined {
         kind: dd_type(s),
         value: dd_value(t),
@@ -100,7 +100,7 @@ fn count(b: usize) -> usize {
     if b == 255 { 0xffff_ffff_ffff_ffff } else { b }
 }
 
-pub fn with_counts(rec: Record, s: &[u8]) -> Record {
+pub(crate) fn with_counts(rec: Record, s: &[u8]) -> Record {
     let mut next = rec;
     let mut units = next.units;
     let mut dds = next.dds;

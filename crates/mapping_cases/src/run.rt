@@ -154,7 +154,7 @@ fn run_table(s: &[u8], at: usize) -> usize
     run_lines(s, end + 1, part(&space, 0, n))
 }
 
-pub fn run(s: &[u8])
+pub(crate) fn run(s: &[u8])
     requires { ⌜ length (now s) ≤ 2097152 ⌝ }
 {
     let mut at = 0;
