@@ -23,7 +23,7 @@ fn print_witness(table: &[u8], rec: Record) {
     }
 }
 
-pub fn print_verdict(table: &[u8], done: Checked) {
+pub(crate) fn print_verdict(table: &[u8], done: Checked) {
     let rec = done.record;
     let answer = done.answer;
     match answer {

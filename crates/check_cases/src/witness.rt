@@ -40,7 +40,7 @@ fn comes_back(table: &[u8], rec: Record) -> bool {
 }
 
 // Whether a record is a canonical one with a surname that does not come back.
-pub fn is_lost(table: &[u8], rec: Record) -> bool {
+pub(crate) fn is_lost(table: &[u8], rec: Record) -> bool {
     if !rec.is_canonical() {
         return false;
     }
