@@ -32,7 +32,7 @@ ghost use Rattle.mailaddr.specs.Shape.{addressText};
 ghost use Rattle.table.specs.Looked.{Ended, tokensOf};
 ghost use Rattle.table.specs.Lookup.{begins};
 ghost use Rattle.table.specs.Rows.{Inside, RowInside, between, rowAt};
-ghost use Rattle.mapping.specs.Answers.{Routed, Writing, outward, toldAddress};
+ghost use Rattle.mapping.specs.Answers.{Routed, Writing, addressLine, addressNumber, outward, toldAddress};
 ghost use Rattle.mapping.specs.Flat.{Flat, fronts};
 ghost use Rattle.mapping.specs.Results.{placed};
 ghost use Rattle.mapping.specs.ToAddress.{addressOf, extended, plan, planUnder, recordToAddress, toAddress};
@@ -55,7 +55,7 @@ pub struct ToAddress {
 // Room for any local part, and for any address.
 const LOCAL_ROOM: usize = 1792;
 
-const ADDRESS_ROOM: usize = 2560;
+pub const ADDRESS_ROOM: usize = 2560;
 
 // How a record goes out: a row whose domain it is put under, and the levels in front of that domain, `more` of them behind the
 // first `own`.
@@ -65,7 +65,32 @@ struct Route {
     more: usize,
 }
 
-fn refused(answer: AddressAnswer) -> ToAddress
+// Document 01's number for an answer, and with 7 the line.
+pub fn address_number(answer: AddressAnswer) -> usize
+    ensures { λ r. ⌜ r ≡ addressNumber answer ⌝ }
+{
+    match answer {
+        AddressAnswer::Done => 0,
+        AddressAnswer::NotCanonical => 4,
+        AddressAnswer::NoAddress => 5,
+        AddressAnswer::ShortBuffer => 6,
+        AddressAnswer::Malformed(_) => 7,
+    }
+}
+
+pub fn address_line(answer: AddressAnswer) -> usize
+    ensures { λ r. ⌜ r ≡ addressLine answer ⌝ }
+{
+    match answer {
+        AddressAnswer::Done => 0,
+        AddressAnswer::NotCanonical => 0,
+        AddressAnswer::NoAddress => 0,
+        AddressAnswer::ShortBuffer => 0,
+        AddressAnswer::Malformed(line) => line,
+    }
+}
+
+pub fn refused(answer: AddressAnswer) -> ToAddress
     ensures { λ r. ⌜ r ≡ record { answer = answer; size = 0 } ⌝ }
 {
     ToAddress { answer, size: 0 }
@@ -153,7 +178,7 @@ fn write_routed(
 }
 
 // Writes the address of a canonical record to the front of `dst`.
-fn write_address(
+pub fn write_address(
     dst: &mut [u8],
     text: &[u8],
     to_domain: &[usize],
@@ -179,7 +204,7 @@ fn write_address(
 }
 
 // Copies a text out, if it fits.
-fn place(out: &mut [u8], s: &[u8]) -> ToAddress
+pub fn place(out: &mut [u8], s: &[u8]) -> ToAddress
     ensures { λ r. ⌜ toldAddress r (now (out .exit)) ≡ placed (now (s .entry)) (now (out .entry)) ⌝ }
 {
     if out.len() < s.len() {

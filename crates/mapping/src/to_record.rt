@@ -49,6 +49,31 @@ pub struct ToRecord {
     pub record: Record,
 }
 
+// Document 01's number for an answer, and with 7 the line.
+pub fn record_number(answer: RecordAnswer) -> usize
+    ensures { λ r. ⌜ r ≡ recordNumber answer ⌝ }
+{
+    match answer {
+        RecordAnswer::Done => 0,
+        RecordAnswer::NoShape => 1,
+        RecordAnswer::TooLong => 2,
+        RecordAnswer::TooLongCoded => 3,
+        RecordAnswer::Malformed(_) => 7,
+    }
+}
+
+pub fn record_line(answer: RecordAnswer) -> usize
+    ensures { λ r. ⌜ r ≡ recordLine answer ⌝ }
+{
+    match answer {
+        RecordAnswer::Done => 0,
+        RecordAnswer::NoShape => 0,
+        RecordAnswer::TooLong => 0,
+        RecordAnswer::TooLongCoded => 0,
+        RecordAnswer::Malformed(line) => line,
+    }
+}
+
 fn refused(answer: RecordAnswer) -> ToRecord
     ensures { λ r. ⌜ toldRecord r ≡ record { number = recordNumber answer; line = recordLine answer; record' = emptyRecord } ⌝ }
 {

@@ -157,12 +157,15 @@ module _ (s ds rs : List ℕ) (t : load.Loaded.Loaded) where
   plan-table ls none = refl
   plan-table ls (some r) = refl
 
-  pub address-table : (r : Record) (old : List ℕ) → toAddress (outward s rs t) r old ≡ toAddress (tableAt s ds rs t) r old
-  unfolding toAddress addressOf isCarrier plan tableAt
-  address-table r old =
-      let a : Attributes = view r in
-      ap (λ (p : Plan). cond (canonicalRecord r) (placedIn old (cond (isCarrier (outward s rs t) a) (carriedAddress (a .dds)) (some (planned p a)))) (refusedAddress 4 old))
+  pub address-under : (a : Attributes) → addressOf (outward s rs t) a ≡ addressOf (tableAt s ds rs t) a
+  unfolding addressOf isCarrier plan tableAt
+  address-under a =
+      ap (λ (p : Plan). cond (isCarrier (outward s rs t) a) (carriedAddress (a .dds)) (some (planned p a)))
       (plan-table (levels a) (look byPath (rowsAt s rs (t .«to_domain»)) (levels a)))
+
+  pub address-table : (r : Record) (old : List ℕ) → toAddress (outward s rs t) r old ≡ toAddress (tableAt s ds rs t) r old
+  unfolding toAddress
+  address-table r old = ap (λ (o : Option (List ℕ)). cond (canonicalRecord r) (placedIn old o) (refusedAddress 4 old)) (address-under (view r))
 
 -- under a table text that was read
 module _ (s ds rs : List ℕ) (r : Record) (old : List ℕ) where

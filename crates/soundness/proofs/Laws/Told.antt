@@ -1,46 +1,36 @@
 -- What the code's answers tell of a candidate: the record with a token behind its levels; whether an address becomes the record, by the
 -- answer of address to record; and whether a record comes back, by the answer of record to address in a buffer that has room for any text.
 -- Assumes nothing.
-use mathlib.Core.Path.{_≡_, refl, sym, ap, subst, _∙_}
+use mathlib.Core.Path.{_≡_, refl, sym, ap, _∙_}
 use mathlib.Core.Bool.{true, false, _&&_, cond}
 use mathlib.Core.List.{List, [], _∷_, _++_}
-use mathlib.Core.Option.{Option, none, some, Option·some-injective}
-use Prim.Native.Nat.{ℕ, suc, _+_, _≤_, zero-le}
+use mathlib.Core.Option.{Option, none, some}
+use Prim.Native.Nat.{ℕ, suc, _+_, _≤_}
 use native.Mathlib.Nat.{add-zero}
 use native.Mathlib.Omega.{arith}
 use borrow.Author.Tests.{eqb-true}
 use lib.Dec.{eqb}
 use lib.ListN.{length, take}
-use Rattle.chars.specs.Lists.{all}
 use Rattle.chars.specs.Write.{front}
-use Rattle.chars.proofs.Laws.Lists.{and-left, and-right, by-test, true-not-false}
+use Rattle.chars.proofs.Laws.Lists.{by-test, true-not-false}
 use Rattle.chars.proofs.Laws.Write.{length-front, take-front}
 use Rattle.oraddr.specs.Add.{Outcome, told}
-use Rattle.oraddr.specs.Attributes.{Dd}
-use Rattle.oraddr.specs.Bounds.{DD-TYPE, DD-VALUE, isValue}
-use Rattle.oraddr.specs.Canonical.{canonicalRecord, isDd}
+use Rattle.oraddr.specs.Canonical.{canonicalRecord}
 use Rattle.oraddr.specs.Same.{sameRecord}
 use Rattle.oraddr.specs.View.{emptyRecord, view}
 use Rattle.oraddr.specs.declared.add.Addition.{Addition}
 use Rattle.oraddr.specs.declared.record.Record.{Record}
-use Rattle.oraddr.proofs.Laws.Canonical.{canonical-parts, canonical-view}
-use Rattle.oraddr.proofs.Laws.View.{value-length}
-use Rattle.mailaddr.specs.Code.{decoded}
-use Rattle.mailaddr.specs.Shape.{shapeOf}
-use Rattle.mailaddr.proofs.Laws.Code.{decoded-length}
 use Rattle.table.specs.Formed.{Formed}
 use Rattle.table.specs.Settle.{addLevel, addLevels, begun}
 use Rattle.table.specs.Table.{Table, Token}
 use Rattle.mapping.specs.Answers.{addressNumber, recordNumber, toldAddress, toldRecord}
-use Rattle.mapping.specs.Carried.{isNone}
 use Rattle.mapping.specs.Results.{AddressResult, RecordResult}
-use Rattle.mapping.specs.ToAddress.{addressOf, carriedAddress, carriedValue, inShape, isCarrier, toAddress}
+use Rattle.mapping.specs.ToAddress.{toAddress}
 use Rattle.mapping.specs.ToRecord.{toRecord}
 use Rattle.mapping.specs.declared.to_address.ToAddress.{ToAddress}
 use Rattle.mapping.specs.declared.to_record.RecordAnswer.the-variants.{Done}
 use Rattle.mapping.specs.declared.to_record.ToRecord.{ToRecord}
-use Rattle.mapping.proofs.Laws.Route.{address-carried, address-planned}
-use Rattle.mapping.proofs.Laws.Sent.{sent-short}
+use Rattle.mapping.proofs.Laws.Short.{address-short}
 use Rattle.soundness.specs.Check.{candidateOf, named}
 use Rattle.soundness.specs.Sound.{backBy, comesBack, textOf}
 use Rattle.soundness.proofs.Laws.Comes.{given, refused}
@@ -83,35 +73,13 @@ module _ (t : Table) (s : List ℕ) (r : Record) (x : ToRecord) (e : toldRecord 
 
 -- ---- whether a record comes back
 
--- a text in the accepted shape is the one that was decoded, which is no longer than the value of a DD
-shape-of : (o : Option (List ℕ)) (s : List ℕ) → inShape o ≡ some s → o ≡ some s
-unfolding inShape
-shape-of none s h = h
-shape-of (some u) s h =
-    by-test (isNone (shapeOf u))
-    (λ e. let n : _≡_ {A = Option (List ℕ)} none (some s) = rw e at h in let z : _≡_ {A = ℕ} 0 1 = cc in absurd (omega arith))
-    (λ e. rw e at h)
-
-value-short : (ds : List Dd) → all isDd ds ≡ true → length (carriedValue ds) ≤ 128
-unfolding carriedValue all isDd
-value-short [] h = zero-le
-value-short (d ∷ ds) h =
-    value-length DD-VALUE (d .value) (and-right (isValue DD-TYPE (d .kind)) (isValue DD-VALUE (d .value)) (and-left (isDd d) (all isDd ds) h))
-
-carried-short : (ds : List Dd) (s : List ℕ) → all isDd ds ≡ true → carriedAddress ds ≡ some s → length s ≤ 128
-unfolding carriedAddress
-carried-short ds s h e = omega (arith, decoded-length (carriedValue ds) s (shape-of (decoded (carriedValue ds)) s e), value-short ds h)
-
 module _ (t : Table) (f : Formed t) (r : Record) where
   -- the text that a record goes out as is short
   text-short : (s : List ℕ) → textOf t r ≡ some s → length s ≤ 2048
   unfolding textOf
   text-short s e =
       by-test (canonicalRecord r)
-      (λ c. let a : addressOf t (view r) ≡ some s = rw c at e in
-      by-test (isCarrier t (view r))
-      (λ k. omega (arith, carried-short (view r .dds) s (canonical-parts (view r) (canonical-view r c) .dds) (sym (address-carried t (view r) k) ∙ a)))
-      (λ k. subst (λ (u : List ℕ). length u ≤ 2048) (Option·some-injective _ s (sym (address-planned t (view r) k) ∙ a)) (sent-short t f r c)))
+      (λ c. address-short t f r s c (rw c at e))
       (λ c. let n : _≡_ {A = Option (List ℕ)} none (some s) = rw c at e in let z : _≡_ {A = ℕ} 0 1 = cc in absurd (omega arith))
 
   module _ (x : ToAddress) (old new : List ℕ) (l : length old ≡ 2560) (e : toldAddress x new ≡ toAddress t r old) where
