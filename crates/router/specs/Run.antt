@@ -10,8 +10,8 @@ use Rattle.chars.specs.Lists.{nonEmpty}
 use Rattle.chars.specs.Parts.{run, split}
 use Rattle.chars.specs.Write.{Wrote}
 use Rattle.table.specs.Formed.{Formed}
-use Rattle.table.specs.Lines.{Loaded, malformed, wellFormed}
-use Rattle.table.specs.Load.{Kept}
+use Rattle.table.specs.Lines.{Loaded, loadedFrom, malformed, wellFormed}
+use Rattle.table.specs.Load.{Kept, loadAnswer}
 use Rattle.table.specs.Rows.{tableAt}
 use Rattle.table.specs.declared.load.TableRead.{TableRead}
 use Rattle.table.specs.declared.load.TableRead.the-variants.{Table as TableFound, Malformed}
@@ -110,6 +110,11 @@ FormedBy (wellFormed t) = Formed t
 abbrev pub Ready : List ℕ → List ℕ → List ℕ → TableRead → Type 0
 Ready s ds rs (TableFound t) = Kept s ds rs t × Formed (tableAt s ds rs t)
 Ready s ds rs (Malformed n) = Unit
+
+-- A table text that was loaded for a run: what it comes to, and that it is in order.
+pub record Opened (s : List ℕ) (r : TableRead) (ds rs : List ℕ) : Type 0 where
+  pub answers : loadAnswer s ds rs r ≡ loadedFrom s
+  pub ready : Ready s ds rs r
 
 -- a text at a place, or nothing where it does not fit
 abbrev pub Placed : List ℕ → ℕ → List ℕ → Placing → List ℕ → Type 0

@@ -4,15 +4,16 @@ use crate::line::Placing;
 use crate::line::place_answer;
 use chars::parts::part_end;
 use table::load::TableRead;
+use table::load::load;
 ghost use mathlib.Core.Path.{_≡_};
 ghost use mathlib.Core.Bool.{false};
 ghost use Prim.Native.Nat.{_<_, _≤_};
 ghost use lib.Dec.{ltb};
 ghost use lib.ListN.{length, drop};
 ghost use Rattle.chars.specs.Parts.{run};
-ghost use Rattle.table.specs.Load.{loadAnswer};
+ghost use Rattle.table.specs.Load.{loadAnswer, rowsSize};
 ghost use Rattle.router.specs.Line.{longestLine};
-ghost use Rattle.router.specs.Run.{Ready, Routing, RoutingFrom, RoutingRest};
+ghost use Rattle.router.specs.Run.{Opened, Ready, Routing, RoutingFrom, RoutingRest};
 
 // How far a call came in its input, and how much it wrote. `over` says that the input goes on within a line that is over the limit and has
 // been answered.
@@ -20,6 +21,15 @@ pub struct Routed {
     pub over: bool,
     pub taken: usize,
     pub written: usize,
+}
+
+// Loads a table text for a run of lines. The rows go to the two lent lists.
+pub fn open(text: &[u8], to_path: &mut [usize], to_domain: &mut [usize]) -> TableRead
+    requires { ⌜ length (now «to_path») ≡ rowsSize ⌝ }
+    requires { ⌜ length (now «to_domain») ≡ rowsSize ⌝ }
+    ensures { λ r. ⌜ Opened (now (text .entry)) r (now («to_path» .exit)) (now («to_domain» .exit)) ⌝ }
+{
+    load(text, to_path, to_domain)
 }
 
 // The rest of the input from `at` on, which has no LF and is a line all the same: it is over the limit, or nothing more comes.

@@ -26,13 +26,14 @@ use Rattle.ortext.specs.declared.read.Reading.{Reading}
 use Rattle.ortext.proofs.Laws.Write.{text-bound}
 use Rattle.table.specs.Formed.{Formed}
 use Rattle.table.specs.Lines as lines
-use Rattle.table.specs.Lines.{malformed, wellFormed}
-use Rattle.table.specs.Load.{loadAnswer}
+use Rattle.table.specs.Lines.{loadedFrom, malformed, wellFormed}
+use Rattle.table.specs.Load.{Loading, loadAnswer}
 use Rattle.table.specs.Rows.{tableAt}
 use Rattle.table.specs.Table.{Table}
 use Rattle.table.specs.declared.load.Loaded.{Loaded}
 use Rattle.table.specs.declared.load.TableRead.{TableRead}
 use Rattle.table.specs.declared.load.TableRead.the-variants.{Table as TableFound, Malformed}
+use Rattle.table.proofs.Laws.Formed.{loaded-formed}
 use Rattle.mapping.specs.Answers.{outward, recordNumber, toldRecord}
 use Rattle.mapping.specs.Results.{RecordResult, malformedRecord}
 use Rattle.mapping.specs.ToAddress.{addressOf}
@@ -231,3 +232,16 @@ pub ready-formed : (s ds rs : List ℕ) (r : TableRead) → Ready s ds rs r → 
 unfolding loadAnswer
 ready-formed s ds rs (TableFound t) h = h .1
 ready-formed s ds rs (Malformed n) h = tt
+
+-- and so does one that a text spells
+pub loading-ready : (s ds rs : List ℕ) (r : TableRead) → Loading s (loadedFrom s) r ds rs → Ready s ds rs r
+unfolding loadAnswer
+loading-ready s ds rs (TableFound t) h = (h .kept, loaded-formed s (tableAt s ds rs t) (sym (h .answers)))
+loading-ready s ds rs (Malformed n) h = tt
+
+pub loaded-rules : (s : List ℕ) → FormedBy (loadedFrom s)
+loaded-rules s = by-text (loadedFrom s) refl
+  where
+    by-text : (l : lines.Loaded) → loadedFrom s ≡ l → FormedBy l
+    by-text (malformed n) e = tt
+    by-text (wellFormed t) e = loaded-formed s t e

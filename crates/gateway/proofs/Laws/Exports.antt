@@ -1,0 +1,207 @@
+-- What the functions for C return, from what the entry points told them.
+-- Assumes nothing.
+use mathlib.Core.Path.{_≡_, refl, sym, ap, subst, _∙_}
+use mathlib.Core.Logic.{_⊎_, inl, inr}
+use mathlib.Core.Bool.{Bool, true, false, cond}
+use mathlib.Core.List.{List, []}
+use Prim.Native.Nat.{ℕ, _+_, _*_, _≤_}
+use native.Mathlib.Omega.{arith}
+use borrow.Author.Tests.{ne-eqb}
+use lib.Dec.{eqb, ltb}
+use lib.ListN.{length}
+use Rattle.chars.specs.Lists.{nonEmpty}
+use Rattle.chars.proofs.Laws.Lists.{by-test, true-not-false}
+use Rattle.oraddr.specs.Add.{Outcome, told}
+use Rattle.oraddr.specs.Canonical.{canonicalRecord}
+use Rattle.oraddr.specs.View.{emptyRecord, view}
+use Rattle.oraddr.specs.declared.add.Addition.{Addition}
+use Rattle.oraddr.specs.declared.record.Record.{Record}
+use Rattle.oraddr.specs.Attributes.{singleOf}
+use Rattle.oraddr.proofs.Laws.Canonical.{canonical-parts, canonical-view}
+use Rattle.oraddr.proofs.Laws.View.{view-empty}
+use Rattle.ortext.specs.Apply as apply
+use Rattle.ortext.specs.Apply.{again, read, readText, refused, unread}
+use Rattle.ortext.specs.Keys.{keys}
+use Rattle.ortext.specs.Write.{recordText, remaining}
+use Rattle.ortext.proofs.Laws.Write.{text-bound}
+use Rattle.table.specs.Lines.{Loaded, loadedFrom, malformed, wellFormed}
+use Rattle.table.specs.Table.{Table}
+use Rattle.table.proofs.Laws.Formed.{loaded-formed}
+use Rattle.mapping.specs.Answers.{addressLine, addressNumber, recordLine, recordNumber, toldAddress, toldRecord}
+use Rattle.mapping.specs.Results.{AddressResult, RecordResult, malformedAddress, malformedRecord, placed, refusedAddress}
+use Rattle.mapping.specs.ToAddress.{recordToAddress, toAddress, toAddressBy}
+use Rattle.mapping.specs.ToRecord.{addressToRecord, toRecord, toRecordBy}
+use Rattle.mapping.specs.declared.to_address.AddressAnswer.{AddressAnswer}
+use Rattle.mapping.specs.declared.to_address.AddressAnswer.the-variants as address-answer
+use Rattle.mapping.specs.declared.to_address.ToAddress.{ToAddress}
+use Rattle.mapping.specs.declared.to_record.RecordAnswer.{RecordAnswer}
+use Rattle.mapping.specs.declared.to_record.RecordAnswer.the-variants as record-answer
+use Rattle.mapping.specs.declared.to_record.ToRecord.{ToRecord}
+use Rattle.mapping.proofs.Laws.Returned.{done-canonical}
+use Rattle.soundness.specs.Check.{CheckResult, Demand3}
+use Rattle.gateway.specs.Exports.{Exported, ExportedCheck, Shown, addressToText, packed, readingToAddress, textResult, textToAddress, textToAddressBy}
+use Rattle.gateway.specs.Texts.{readOutcome, recordOfText}
+use Rattle.gateway.proofs.Laws.Texts.{outcome-done, outcome-not}
+use Rattle.gateway.proofs.Laws.Bounds.{address-bound, line-bound, mostCount, placed-line, placed-size, record-line-bound}
+
+pub number-small : (a : AddressAnswer) → addressNumber a ≤ 7
+unfolding addressNumber
+number-small address-answer.Done = omega arith
+number-small address-answer.NotCanonical = omega arith
+number-small address-answer.NoAddress = omega arith
+number-small address-answer.ShortBuffer = omega arith
+number-small (address-answer.Malformed l) = omega arith
+
+-- a result as it was told, in one value
+pub exported : (o : AddressResult) (w : ToAddress) (r : ℕ) (new : List ℕ) → toldAddress w new ≡ o → r ≡ packed (toldAddress w []) → Exported o r new
+unfolding packed toldAddress
+exported o w r new e k = record { value = k ∙ ap packed e; buffer = ap (λ (x : AddressResult). x .buffer) e }
+
+-- ---- an address to a record's text
+
+loaded-canonical : (table s : List ℕ) (l : Loaded) → loadedFrom table ≡ l → toRecordBy l s .number ≡ 0 → canonicalRecord (toRecordBy l s .record') ≡ true
+unfolding toRecordBy malformedRecord
+loaded-canonical table s (malformed n) e h = absurd (omega arith)
+loaded-canonical table s (wellFormed t) e h = done-canonical t (loaded-formed table t e) s h
+
+-- a refusal has a line only with 7
+refused-packed : (a : RecordAnswer) → recordNumber a + 16 * recordLine a ≡ recordNumber a + 16 * cond (eqb (recordNumber a) 7) (recordLine a) 0
+unfolding recordNumber recordLine
+refused-packed record-answer.Done = refl
+refused-packed record-answer.NoShape = refl
+refused-packed record-answer.TooLong = refl
+refused-packed record-answer.TooLongCoded = refl
+refused-packed (record-answer.Malformed l) = refl
+
+pub refused-small : (a : RecordAnswer) → recordNumber a ≤ 7
+unfolding recordNumber
+refused-small record-answer.Done = omega arith
+refused-small record-answer.NoShape = omega arith
+refused-small record-answer.TooLong = omega arith
+refused-small record-answer.TooLongCoded = omega arith
+refused-small (record-answer.Malformed l) = omega arith
+
+module _ (table s old : List ℕ) (x : ToRecord) (e : toldRecord x ≡ addressToRecord table s) (n : ℕ) (k : n ≡ recordNumber (x .answer)) where
+  number-is : addressToRecord table s .number ≡ n
+  unfolding toldRecord
+  number-is = ap (λ (o : RecordResult). o .number) (sym e) ∙ sym k
+
+  record-is : addressToRecord table s .record' ≡ x .«record»
+  unfolding toldRecord
+  record-is = ap (λ (o : RecordResult). o .record') (sym e)
+
+  line-is : addressToRecord table s .line ≡ recordLine (x .answer)
+  unfolding toldRecord
+  line-is = ap (λ (o : RecordResult). o .line) (sym e)
+
+  pub line-small : recordLine (x .answer) ≤ mostCount
+  line-small = omega (arith, line-is, record-line-bound table s)
+
+  pub text-canonical : n ≡ 0 → canonicalRecord (x .«record») ≡ true
+  unfolding addressToRecord
+  text-canonical z = ap canonicalRecord (sym record-is) ∙ loaded-canonical table s (loadedFrom table) refl (number-is ∙ z)
+
+  pub text-done : n ≡ 0 → placed (recordText keys (view (x .«record»))) old ≡ addressToText table s old
+  unfolding addressToText textResult
+  text-done z = rw (number-is, z, record-is)
+
+  pub text-not : (n ≡ 0 → ⊥) → (r : ℕ) → r ≡ n + 16 * recordLine (x .answer) → Exported (addressToText table s old) r old
+  unfolding addressToText textResult packed
+  text-not z r h =
+      record {
+        value = h ∙ rw (number-is, ne-eqb n 0 z, line-is, k) (refused-packed (x .answer));
+        buffer = rw (number-is, ne-eqb n 0 z);
+      }
+
+-- the text of a canonical record is short
+pub text-counts : (r : Record) (old new : List ℕ) (w : ToAddress) → canonicalRecord r ≡ true → toldAddress w new ≡ placed (recordText keys (view r)) old
+    → (w .size ≤ mostCount) × (addressLine (w .answer) ≤ mostCount)
+unfolding toldAddress remaining
+text-counts r old new w c e =
+    let s : List ℕ = recordText keys (view r) in
+    let n : w .size ≡ placed s old .size = ap (λ (o : AddressResult). o .size) e in
+    let m : addressLine (w .answer) ≡ placed s old .line = ap (λ (o : AddressResult). o .line) e in
+    (omega (arith, placed-size s old, text-bound (view r) (canonical-view r c) 0), omega (arith, placed-line s old))
+
+-- ---- a record text to an address
+
+-- an empty record has no C
+not-canonical : canonicalRecord emptyRecord ≡ false
+unfolding nonEmpty singleOf
+not-canonical =
+    by-test (canonicalRecord emptyRecord)
+    (λ e. true-not-false false (rw view-empty at (canonical-parts (view emptyRecord) (canonical-view emptyRecord e) .country)) refl)
+    (λ e. e)
+
+module _ (t : Table) (old : List ℕ) where
+  refused-by : (r : Record) → canonicalRecord r ≡ false → toAddress t r old ≡ refusedAddress 4 old
+  unfolding toAddress
+  refused-by r c = rw c
+
+  empty-refused : toAddress t emptyRecord old ≡ refusedAddress 4 old
+  empty-refused = refused-by emptyRecord not-canonical
+
+  read-address : (x : apply.Reading) → toAddress t (readOutcome x .record') old ≡ readingToAddress t x old
+  unfolding readOutcome readingToAddress
+  read-address unread = empty-refused
+  read-address refused = empty-refused
+  read-address again = empty-refused
+  read-address (read r) =
+      by-test (canonicalRecord r)
+      (λ c. ap (λ (o : Outcome). toAddress t (o .record') old) (sym (outcome-done r c)))
+      (λ c. ap (λ (o : Outcome). toAddress t (o .record') old) (sym (outcome-not r c)) ∙ empty-refused ∙ sym (refused-by r c))
+
+text-address : (l : Loaded) (s old : List ℕ) → toAddressBy l (recordOfText s .record') old ≡ textToAddressBy l s old
+unfolding toAddressBy textToAddressBy recordOfText
+text-address (malformed n) s old = refl
+text-address (wellFormed t) s old = read-address t old (readText keys 0 emptyRecord s)
+
+pub text-to-address : (table s old : List ℕ) (d : Addition) → told d ≡ recordOfText s → recordToAddress table (d .«record») old ≡ textToAddress table s old
+unfolding recordToAddress textToAddress
+text-to-address table s old d e = ap (λ (o : Outcome). toAddressBy (loadedFrom table) (o .record') old) e ∙ text-address (loadedFrom table) s old
+
+pub address-counts : (table : List ℕ) (r : Record) (old new : List ℕ) (w : ToAddress) → toldAddress w new ≡ recordToAddress table r old
+    → (w .size ≤ mostCount) × (addressLine (w .answer) ≤ mostCount)
+unfolding toldAddress
+address-counts table r old new w e =
+    let n : w .size ≡ recordToAddress table r old .size = ap (λ (o : AddressResult). o .size) e in
+    let m : addressLine (w .answer) ≡ recordToAddress table r old .line = ap (λ (o : AddressResult). o .line) e in
+    (omega (arith, address-bound old table r .0), omega (arith, address-bound old table r .1))
+
+-- ---- the check
+
+-- a witness is canonical
+pub witness-canonical : (l : Loaded) (o : CheckResult) → Demand3 l o → o .number ≡ 8 → canonicalRecord (o .record') ≡ true
+witness-canonical (malformed n) o d h = absurd (omega (arith, d .number))
+witness-canonical (wellFormed t) o (inl a) h = absurd (omega (arith, a .number))
+witness-canonical (wellFormed t) o (inr r) h = r .witness .canonical
+
+pub tells-sound : (l : Loaded) (o : CheckResult) (old : List ℕ) → Demand3 l o → o .number ≡ 0 → ExportedCheck l old 0 old
+tells-sound (malformed n) o old d h = absurd (omega (arith, d .number))
+tells-sound (wellFormed t) o old (inl a) h = inl (record { sound = a .sound; value = refl; buffer = refl })
+tells-sound (wellFormed t) o old (inr r) h = absurd (omega (arith, r .number))
+
+pub tells-witness : (l : Loaded) (o : CheckResult) (old new : List ℕ) (n : ℕ) → Demand3 l o → o .number ≡ 8 → Shown (recordText keys (view (o .record'))) old n new
+    → ExportedCheck l old (8 + 16 * n) new
+tells-witness (malformed m) o old new n d h k = absurd (omega (arith, d .number))
+tells-witness (wellFormed t) o old new n (inl a) h k = absurd (omega (arith, a .number))
+tells-witness (wellFormed t) o old new n (inr r) h k =
+    inr (record { shown = o .record'; witness = r .witness; value = ap (λ (m : ℕ). 8 + 16 * m) (k .size); buffer = k .buffer })
+
+pub tells-malformed : (l : Loaded) (o : CheckResult) (old : List ℕ) → Demand3 l o → o .number ≡ 7 → ExportedCheck l old (7 + 16 * o .line) old
+tells-malformed (malformed n) o old d h = record { value = ap (λ (m : ℕ). 7 + 16 * m) (d .line); buffer = refl }
+tells-malformed (wellFormed t) o old (inl a) h = absurd (omega (arith, a .number))
+tells-malformed (wellFormed t) o old (inr r) h = absurd (omega (arith, r .number))
+
+-- its counts
+pub check-line : (table : List ℕ) (o : CheckResult) → Demand3 (loadedFrom table) o → o .line ≤ mostCount
+check-line table o d = by-table (loadedFrom table) refl d
+  where
+    by-table : (l : Loaded) → loadedFrom table ≡ l → Demand3 l o → o .line ≤ mostCount
+    by-table (malformed n) e d = omega (arith, d .line, line-bound table n e)
+    by-table (wellFormed t) e (inl a) = omega (arith, a .line)
+    by-table (wellFormed t) e (inr r) = omega (arith, r .line)
+
+pub shown-size : (r : Record) (old new : List ℕ) (n : ℕ) → canonicalRecord r ≡ true → Shown (recordText keys (view r)) old n new → n ≤ mostCount
+unfolding remaining
+shown-size r old new n c k = omega (arith, k .size, text-bound (view r) (canonical-view r c) 0)

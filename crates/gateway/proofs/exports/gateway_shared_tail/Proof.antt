@@ -1,0 +1,16 @@
+-- `gateway::exports::gateway_shared_tail` meets its contract.
+-- Assumes nothing.
+use mathlib.Core.Path.{ap}
+use lib.ListN.{length}
+use borrow.Author.Needs.{needs}
+use Rattle.gateway.proofs.exports.gateway_shared_tail.Statement.{statement}
+use Rattle.gateway.proofs.exports.gateway_shared_tail.Tie as tie
+
+shared-tail-requires : tie.Need-shared-tail-requires
+shared-tail-requires c κs = search needs
+
+returns : tie.Need-returns
+returns c = ap length (c .shared-tail .ensures)
+
+pub gateway-shared-tail-spec : {M : Type 1} → statement M
+gateway-shared-tail-spec = tie.close (tie.spec shared-tail-requires returns)

@@ -1,0 +1,35 @@
+-- `gateway::exports::gateway_to_address` meets its contract.
+-- Assumes nothing.
+use mathlib.Core.Path.{_∙_}
+use Rattle.gateway.specs.Exports.{textToAddress}
+use Rattle.gateway.proofs.Laws.Exports.{address-counts, exported, text-to-address}
+use borrow.Author.Needs.{needs}
+use Rattle.gateway.proofs.exports.gateway_to_address.Statement.{statement}
+use Rattle.gateway.proofs.exports.gateway_to_address.Tie as tie
+
+read-record-requires : tie.Need-read-record-requires
+read-record-requires c κs = search needs
+
+to-address-requires : tie.Need-to-address-requires
+to-address-requires c κs = search needs
+
+pack-requires : tie.Need-pack-requires
+pack-requires c κs =
+    let w = c .before .before in
+    let a = w .before .before .before .before .before .before .before .args in
+    address-counts (a .table .now) (w .before .before .before .read-record .result .«record») (a .out .now) (w .to-address .last .1 .1 .0) (w .to-address .result) (w .to-address .ensures)
+
+same-length : tie.Need-same-length
+same-length c = search needs
+
+returns : tie.Need-returns
+returns c =
+    let w = c .before .before .before in
+    let a = w .before .before .before .before .before .before .before .args in
+    let d = w .before .before .before .read-record in
+    exported (textToAddress (a .table .now) (a .record-text .now) (a .out .now)) (w .to-address .result) (c .pack .result) (w .to-address .last .1 .1 .0)
+    (w .to-address .ensures ∙ text-to-address (a .table .now) (a .record-text .now) (a .out .now) (d .result) (d .ensures)) (c .pack .ensures)
+
+pub gateway-to-address-spec : {M : Type 1} → statement M
+gateway-to-address-spec =
+    tie.close (tie.spec read-record-requires to-address-requires pack-requires same-length returns)

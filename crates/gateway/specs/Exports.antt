@@ -1,0 +1,94 @@
+-- What the functions for C return: a number and a count in one value, and the text in the lent buffer.
+-- Assumes nothing.
+use mathlib.Core.Path.{_≡_}
+use mathlib.Core.Logic.{_⊎_}
+use mathlib.Core.Bool.{Bool, cond}
+use mathlib.Core.List.{List}
+use Prim.Native.Nat.{ℕ, _+_, _*_}
+use lib.Dec.{eqb, ltb}
+use lib.ListN.{length}
+use Rattle.chars.specs.Write.{front}
+use Rattle.oraddr.specs.Canonical.{canonicalRecord}
+use Rattle.oraddr.specs.View.{emptyRecord, view}
+use Rattle.oraddr.specs.declared.record.Record.{Record}
+use Rattle.ortext.specs.Apply.{Reading, again, read, readText, refused, unread}
+use Rattle.ortext.specs.Keys.{keys}
+use Rattle.ortext.specs.Write.{recordText}
+use Rattle.table.specs.Lines.{Loaded, loadedFrom, malformed, wellFormed}
+use Rattle.table.specs.Table.{Table}
+use Rattle.mapping.specs.Results.{AddressResult, RecordResult, malformedAddress, placed, refusedAddress}
+use Rattle.mapping.specs.ToAddress.{toAddress}
+use Rattle.mapping.specs.ToRecord.{addressToRecord}
+use Rattle.soundness.specs.Sound.{Sound, Witness}
+
+-- "number + 16 * n, where n is the length written on 0 .., the line on 7, and 0 otherwise"
+unfoldable pub packed : AddressResult → ℕ
+packed o = o .number + 16 * cond (eqb (o .number) 7) (o .line) (o .size)
+
+-- the value that is returned and the buffer, of a result
+pub record Exported (o : AddressResult) (r : ℕ) (new : List ℕ) : Type 0 where
+  pub value : r ≡ packed o
+  pub buffer : new ≡ o .buffer
+
+-- an address to a record's text: 7, 2, 1, 3, and last 6, where the buffer is shorter than the text
+unfoldable pub textResult : RecordResult → List ℕ → AddressResult
+unfolding placed recordText keys view
+textResult o old =
+    cond (eqb (o .number) 0)
+    (placed (recordText keys (view (o .record'))) old)
+    (record { number = o .number; line = o .line; size = 0; buffer = old })
+
+unfoldable pub addressToText : List ℕ → List ℕ → List ℕ → AddressResult
+unfolding textResult addressToRecord
+addressToText table s old = textResult (addressToRecord table s) old
+
+-- a record text to an address: 7, 4 where it does not read as a canonical record, 5, 6
+unfoldable pub readingToAddress : Table → Reading → List ℕ → AddressResult
+unfolding refusedAddress toAddress
+readingToAddress t unread old = refusedAddress 4 old
+readingToAddress t refused old = refusedAddress 4 old
+readingToAddress t again old = refusedAddress 4 old
+readingToAddress t (read r) old = toAddress t r old
+
+unfoldable pub textToAddressBy : Loaded → List ℕ → List ℕ → AddressResult
+unfolding malformedAddress readingToAddress readText keys
+textToAddressBy (malformed l) s old = malformedAddress l old
+textToAddressBy (wellFormed t) s old = readingToAddress t (readText keys 0 emptyRecord s) old
+
+unfoldable pub textToAddress : List ℕ → List ℕ → List ℕ → AddressResult
+unfolding textToAddressBy loadedFrom
+textToAddress table s old = textToAddressBy (loadedFrom table) s old
+
+-- ---- the check
+
+-- the buffer with the text at its front, if that fits; else as before
+unfoldable pub filled : List ℕ → List ℕ → List ℕ
+unfolding front
+filled s old = cond (ltb (length old) (length s)) old (front s old)
+
+-- a text and its length
+pub record Shown (s old : List ℕ) (n : ℕ) (new : List ℕ) : Type 0 where
+  pub size : n ≡ length s
+  pub buffer : new ≡ filled s old
+
+-- 0: every canonical record that is no carrier comes back
+pub record TellsSound (t : Table) (old : List ℕ) (r : ℕ) (new : List ℕ) : Type 0 where
+  pub sound : Sound t
+  pub value : r ≡ 0
+  pub buffer : new ≡ old
+
+-- 8: a witness, with its text's length, and its text if that fits
+pub record TellsWitness (t : Table) (old : List ℕ) (r : ℕ) (new : List ℕ) : Type 0 where
+  pub shown : Record
+  pub witness : Witness t shown
+  pub value : r ≡ 8 + 16 * length (recordText keys (view shown))
+  pub buffer : new ≡ filled (recordText keys (view shown)) old
+
+-- 7: the first bad line
+pub record TellsMalformed (n : ℕ) (old : List ℕ) (r : ℕ) (new : List ℕ) : Type 0 where
+  pub value : r ≡ 7 + 16 * n
+  pub buffer : new ≡ old
+
+abbrev pub ExportedCheck : Loaded → List ℕ → ℕ → List ℕ → Type 0
+ExportedCheck (malformed n) old r new = TellsMalformed n old r new
+ExportedCheck (wellFormed t) old r new = TellsSound t old r new ⊎ TellsWitness t old r new

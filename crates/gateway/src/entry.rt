@@ -1,0 +1,169 @@
+// Every entry point of the library, each with its promise. Each takes any bytes.
+use mapping::to_address::AddressAnswer;
+use mapping::to_address::ToAddress;
+use mapping::to_address::place;
+use mapping::to_address::record_to_address;
+use mapping::to_address::refused;
+use mapping::to_record::ToRecord;
+use mapping::to_record::address_to_record;
+use oraddr::add::Added;
+use oraddr::add::Addition;
+use oraddr::add::Attribute;
+use oraddr::record::Record;
+use ortext::read::Answer;
+use ortext::read::read_text;
+use ortext::write::write_text;
+use router::run::Routed;
+use soundness::check::Checked;
+use table::rows::ROWS_SIZE;
+ghost use mathlib.Core.Path.{_≡_};
+ghost use mathlib.Core.Bool.{true};
+ghost use mathlib.Core.Option.{some};
+ghost use lib.ListN.{length};
+ghost use Rattle.oraddr.specs.Add.{addDd, addSingle, addUnit, placeOf, told};
+ghost use Rattle.oraddr.specs.Canonical.{canonicalRecord};
+ghost use Rattle.oraddr.specs.View.{emptyRecord, view};
+ghost use Rattle.oraddr.specs.declared.add.Added.the-variants.{Refused};
+ghost use Rattle.ortext.specs.Apply.{read};
+ghost use Rattle.ortext.specs.Keys.{keys};
+ghost use Rattle.ortext.specs.Write.{recordText};
+ghost use Rattle.mailaddr.specs.Tail.{sharedTail};
+ghost use Rattle.table.specs.Lines.{loadedFrom};
+ghost use Rattle.mapping.specs.Answers.{Fronted, toldAddress, toldRecord};
+ghost use Rattle.mapping.specs.Results.{placed};
+ghost use Rattle.mapping.specs.ToAddress.{recordToAddress};
+ghost use Rattle.mapping.specs.ToRecord.{addressToRecord};
+ghost use Rattle.soundness.specs.Check.{Demand3, toldCheck};
+ghost use Rattle.router.specs.Run.{Routing};
+ghost use Rattle.gateway.specs.Texts.{readOutcome, recordOfText, textOfRecord};
+
+// Room for the text of any canonical record.
+pub(crate) const TEXT_ROOM: usize = 1735;
+
+// An address to a record, under a table text: 0, 1, 2, 3 or 7.
+pub fn to_record(table: &[u8], address: &[u8]) -> ToRecord
+    ensures { λ r. ⌜ toldRecord r ≡ addressToRecord (now (table .entry)) (now (address .entry)) ⌝ }
+{
+    address_to_record(table, address)
+}
+
+// A record to an address in a lent buffer, under a table text: 0, 4, 5, 6 or 7.
+pub fn to_address(table: &[u8], rec: Record, out: &mut [u8]) -> ToAddress
+    ensures { λ r. ⌜ toldAddress r (now (out .exit)) ≡ recordToAddress (now (table .entry)) rec (now (out .entry)) ⌝ }
+{
+    record_to_address(table, rec, out)
+}
+
+// The check of a table text: 0, 7, or 8 with a witness.
+pub fn check(table: &[u8]) -> Checked
+    ensures { λ r. ⌜ Demand3 (loadedFrom (now (table .entry))) (toldCheck r) ⌝ }
+{
+    soundness::check::check(table)
+}
+
+// Adds an attribute that a record has once: 0 or 4.
+pub fn add(rec: Record, a: Attribute, value: &[u8]) -> Addition
+    ensures { λ r. ⌜ told r ≡ addSingle rec (placeOf a) (now (value .entry)) ⌝ }
+{
+    rec.with(a, value)
+}
+
+// Adds a unit behind those that are there: 0 or 4.
+pub fn add_unit(rec: Record, name: &[u8]) -> Addition
+    ensures { λ r. ⌜ told r ≡ addUnit rec (now (name .entry)) ⌝ }
+{
+    rec.with_unit(name)
+}
+
+// Adds a domain-defined attribute behind those that are there: 0 or 4.
+pub fn add_dd(rec: Record, kind: &[u8], value: &[u8]) -> Addition
+    ensures { λ r. ⌜ told r ≡ addDd rec (now (kind .entry)) (now (value .entry)) ⌝ }
+{
+    rec.with_dd(kind, value)
+}
+
+fn no_record() -> Addition
+    ensures { λ r. ⌜ r ≡ record { «record» = emptyRecord; answer = Refused } ⌝ }
+{
+    let rec = Record::empty();
+    Addition {
+        record: rec,
+        answer: Added::Refused,
+    }
+}
+
+// A record that was read, if it is canonical.
+fn if_canonical(rec: Record) -> Addition
+    ensures { λ r. ⌜ told r ≡ readOutcome (read rec) ⌝ }
+{
+    if !rec.is_canonical() {
+        return no_record();
+    }
+    Addition {
+        record: rec,
+        answer: Added::Done,
+    }
+}
+
+// Reads a record text: 0, or 4 and an empty record.
+pub fn read_record(text: &[u8]) -> Addition
+    ensures { λ r. ⌜ told r ≡ recordOfText (now (text .entry)) ⌝ }
+{
+    let done = read_text(Record::empty(), 0, text);
+    let answer = done.answer;
+    let rec = done.record;
+    match answer {
+        Answer::Done => if_canonical(rec),
+        Answer::Unread => no_record(),
+        Answer::Refused => no_record(),
+        Answer::Again => no_record(),
+    }
+}
+
+// Writes the text of a canonical record to the front of a buffer with room for any.
+pub(crate) fn put_text(dst: &mut [u8], rec: Record) -> usize
+    requires { ⌜ length (now dst) ≡ 1735 ⌝ }
+    requires { ⌜ canonicalRecord rec ≡ true ⌝ }
+    ensures { λ r. ⌜ Fronted (some (recordText keys (view rec))) r (now (dst .exit)) ⌝ }
+{
+    write_text(dst, 0, rec, 0)
+}
+
+// Writes the text of a canonical record to a lent buffer, if it fits.
+pub(crate) fn write_canonical(rec: Record, out: &mut [u8]) -> ToAddress
+    requires { ⌜ canonicalRecord rec ≡ true ⌝ }
+    ensures { λ r. ⌜ toldAddress r (now (out .exit)) ≡ placed (recordText keys (view rec)) (now (out .entry)) ⌝ }
+{
+    let mut text = [0u8; TEXT_ROOM];
+    let n = put_text(&mut text, rec);
+    place(out, &text[..n])
+}
+
+// Writes a record's text to a lent buffer: 0, 4 or 6.
+pub fn write_record(rec: Record, out: &mut [u8]) -> ToAddress
+    ensures { λ r. ⌜ toldAddress r (now (out .exit)) ≡ textOfRecord rec (now (out .entry)) ⌝ }
+{
+    if !rec.is_canonical() {
+        return refused(AddressAnswer::NotCanonical);
+    }
+    write_canonical(rec, out)
+}
+
+// The longest tail of the first domain by whole parts that the second has too, case aside, as a part of the first.
+pub fn shared_tail<'a, 'b>(first: &'a [u8], second: &'b [u8]) -> &'a [u8]
+    ensures { λ r. ⌜ now r ≡ sharedTail (now (first .entry)) (now (second .entry)) ⌝ }
+{
+    mailaddr::tail::shared_tail(first, second)
+}
+
+// Answers the lines of `input`, the next part of a run, in `out`, under a table text, which is loaded once for them all. `over` is false for
+// the first part and then what the last call said; `last` says that no more will come. What was not taken is to be lent again, with more
+// behind it.
+pub fn route(table: &[u8], over: bool, input: &[u8], last: bool, out: &mut [u8]) -> Routed
+    ensures { λ r. ⌜ Routing (loadedFrom (now (table .entry))) over (now (input .entry)) last (now (out .entry)) r (now (out .exit)) ⌝ }
+{
+    let mut to_path = [0usize; ROWS_SIZE];
+    let mut to_domain = [0usize; ROWS_SIZE];
+    let read = router::run::open(table, &mut to_path, &mut to_domain);
+    router::run::route(table, &to_path, &to_domain, read, over, input, last, out)
+}
