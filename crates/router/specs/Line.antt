@@ -1,14 +1,13 @@
 -- Document 01, "The program `orroute`": what one line is answered with.
 -- Assumes nothing.
 use Prim.Native.Nat.{ℕ, _+_}
-use mathlib.Core.Bool.{Bool, cond}
+use mathlib.Core.Bool.{cond}
 use mathlib.Core.List.{List, [], _∷_, _++_}
 use mathlib.Core.Option.{Option, none, some}
 use lib.Dec.{eqb, ltb}
 use lib.ListN.{length, getD, drop}
 use Rattle.oraddr.specs.Canonical.{canonicalRecord}
 use Rattle.oraddr.specs.View.{emptyRecord, view}
-use Rattle.oraddr.specs.declared.record.Record.{Record}
 use Rattle.ortext.specs.Apply.{Reading, again, read, readText, refused, unread}
 use Rattle.ortext.specs.Keys.{keys}
 use Rattle.ortext.specs.Write.{recordText}

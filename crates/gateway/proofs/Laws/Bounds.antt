@@ -1,10 +1,10 @@
 -- How great the counts of a result can be: the number of a bad line, and the length of a text.
 -- Assumes nothing.
-use mathlib.Core.Path.{_≡_, refl, sym, ap, subst, _∙_}
-use mathlib.Core.Bool.{Bool, true, false, cond}
+use mathlib.Core.Path.{_≡_, refl, subst}
+use mathlib.Core.Bool.{true, false}
 use mathlib.Core.List.{List, [], _∷_}
 use mathlib.Core.Option.{Option, none, some}
-use Prim.Native.Nat.{ℕ, zero, suc, _+_, _≤_}
+use Prim.Native.Nat.{ℕ, suc, _+_, _≤_}
 use native.Mathlib.Omega.{arith}
 use borrow.Author.Tests.{ltb-false}
 use lib.Dec.{eqb, ltb}
@@ -19,7 +19,7 @@ use Rattle.oraddr.specs.declared.record.Record.{Record}
 use Rattle.table.specs.Lines.{Line, Loaded, badGateway, badRow, gatewayTable, linesOf, loadedFrom, longestTable, malformed, readLines, readRows, tableLines, wellFormed, withRow}
 use Rattle.table.specs.Table.{Table}
 use Rattle.mapping.specs.Carried.{carriedWhole, carrying, longestCoded}
-use Rattle.mapping.specs.Results.{AddressResult, RecordResult, malformedAddress, malformedRecord, mapped, placed, refusedAddress, refusedRecord}
+use Rattle.mapping.specs.Results.{malformedAddress, malformedRecord, mapped, placed, refusedAddress, refusedRecord}
 use Rattle.mapping.specs.ToAddress.{addressOf, placedIn, recordToAddress, toAddress, toAddressBy}
 use Rattle.mapping.specs.ToRecord.{addressToRecord, recordBy, toRecord, toRecordBy}
 use Rattle.mapping.proofs.Laws.Short.{address-short}

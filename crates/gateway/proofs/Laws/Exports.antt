@@ -1,14 +1,13 @@
 -- What the functions for C return, from what the entry points told them.
 -- Assumes nothing.
-use mathlib.Core.Path.{_≡_, refl, sym, ap, subst, _∙_}
-use mathlib.Core.Logic.{_⊎_, inl, inr}
-use mathlib.Core.Bool.{Bool, true, false, cond}
+use mathlib.Core.Path.{_≡_, refl, sym, ap, _∙_}
+use mathlib.Core.Logic.{inl, inr}
+use mathlib.Core.Bool.{true, false, cond}
 use mathlib.Core.List.{List, []}
 use Prim.Native.Nat.{ℕ, _+_, _*_, _≤_}
 use native.Mathlib.Omega.{arith}
 use borrow.Author.Tests.{ne-eqb}
-use lib.Dec.{eqb, ltb}
-use lib.ListN.{length}
+use lib.Dec.{eqb}
 use Rattle.chars.specs.Lists.{nonEmpty}
 use Rattle.chars.proofs.Laws.Lists.{by-test, true-not-false}
 use Rattle.oraddr.specs.Add.{Outcome, told}
@@ -28,9 +27,9 @@ use Rattle.table.specs.Lines.{Loaded, loadedFrom, malformed, wellFormed}
 use Rattle.table.specs.Table.{Table}
 use Rattle.table.proofs.Laws.Formed.{loaded-formed}
 use Rattle.mapping.specs.Answers.{addressLine, addressNumber, recordLine, recordNumber, toldAddress, toldRecord}
-use Rattle.mapping.specs.Results.{AddressResult, RecordResult, malformedAddress, malformedRecord, placed, refusedAddress}
+use Rattle.mapping.specs.Results.{AddressResult, RecordResult, malformedRecord, placed, refusedAddress}
 use Rattle.mapping.specs.ToAddress.{recordToAddress, toAddress, toAddressBy}
-use Rattle.mapping.specs.ToRecord.{addressToRecord, toRecord, toRecordBy}
+use Rattle.mapping.specs.ToRecord.{addressToRecord, toRecordBy}
 use Rattle.mapping.specs.declared.to_address.AddressAnswer.{AddressAnswer}
 use Rattle.mapping.specs.declared.to_address.AddressAnswer.the-variants as address-answer
 use Rattle.mapping.specs.declared.to_address.ToAddress.{ToAddress}

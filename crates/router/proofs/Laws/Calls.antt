@@ -1,10 +1,10 @@
 -- The router's theorem: however the input is cut into chunks as it arrives, and however small the room for output (from that of one answer
 -- up), the whole output is that of the whole input; and calls with that room come to an end.
 -- Assumes nothing.
-use mathlib.Core.Path.{_≡_, refl, sym, ap, subst, _∙_}
+use mathlib.Core.Path.{_≡_, sym, ap, subst, _∙_}
 use mathlib.Core.Logic.{_⊎_, inl, inr}
 use mathlib.Core.Bool.{Bool, true, false}
-use mathlib.Core.List.{List, [], _∷_, _++_, append-assoc}
+use mathlib.Core.List.{List, [], _++_, append-assoc}
 use Prim.Native.Nat.{ℕ, _+_, _≤_, _<_}
 use native.Mathlib.Omega.{arith}
 use borrow.Author.Tests.{ltb-false, ltb-true}
@@ -13,7 +13,7 @@ use lib.ListN.{length, take, drop}
 use Rattle.chars.specs.Parts.{run}
 use Rattle.chars.proofs.Laws.Lists.{by-test}
 use Rattle.table.specs.Lines.{Loaded}
-use Rattle.router.specs.Line.{answerRoom, lineAnswer}
+use Rattle.router.specs.Line.{answerRoom}
 use Rattle.router.specs.Run.{Calls, FormedBy, Lacks, Routing, Waits, afterLine, called, due, ended, whole}
 use Rattle.router.specs.declared.run.Routed.{Routed}
 use Rattle.router.proofs.Laws.Line.{answer-length}

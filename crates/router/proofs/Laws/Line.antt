@@ -1,10 +1,10 @@
 -- Laws of a line's answer: what the answers of the readers and of the mappings come to as a line of output.
 -- Assumes nothing.
 use mathlib.Core.Path.{_≡_, refl, sym, ap, subst, _∙_}
-use mathlib.Core.Bool.{Bool, true, false, cond}
-use mathlib.Core.List.{List, [], _∷_, _++_}
+use mathlib.Core.Bool.{true, false, cond}
+use mathlib.Core.List.{List, [], _∷_}
 use mathlib.Core.Option.{Option, none, some}
-use Prim.Native.Nat.{ℕ, _+_, _≤_, _<_}
+use Prim.Native.Nat.{ℕ, _≤_, _<_}
 use native.Mathlib.Omega.{arith}
 use borrow.Author.Tests.{eqb-true, le-ltb, lt-ltb, ne-eqb}
 use lib.Dec.{eqb, ltb}
@@ -15,12 +15,11 @@ use Rattle.oraddr.specs.Canonical.{canonicalRecord}
 use Rattle.oraddr.specs.View.{emptyRecord, view}
 use Rattle.oraddr.specs.declared.record.Record.{Record}
 use Rattle.oraddr.proofs.Laws.Canonical.{canonical-view}
-use Rattle.ortext.specs.Answers.{answered, reading}
+use Rattle.ortext.specs.Answers.{reading}
 use Rattle.ortext.specs.Apply as apply
 use Rattle.ortext.specs.Apply.{again, read, readText, refused, unread}
 use Rattle.ortext.specs.Keys.{keys}
 use Rattle.ortext.specs.Write.{recordText, remaining}
-use Rattle.ortext.specs.declared.read.Answer.{Answer}
 use Rattle.ortext.specs.declared.read.Answer.the-variants.{Done}
 use Rattle.ortext.specs.declared.read.Reading.{Reading}
 use Rattle.ortext.proofs.Laws.Write.{text-bound}

@@ -2,7 +2,6 @@
 -- Assumes nothing.
 use mathlib.Core.Path.{ap}
 use Rattle.oraddr.specs.declared.add.Added.the-variants.{Refused}
-use Rattle.oraddr.specs.declared.add.Addition.{Addition}
 use Rattle.oraddr.specs.declared.record.Record.{Record}
 use borrow.Author.Needs.{needs}
 use Rattle.gateway.proofs.entry.no_record.Statement.{statement}

@@ -4,7 +4,6 @@ use mathlib.Core.Path.{sym, ap, _∙_}
 use mathlib.Core.List.{List}
 use mathlib.Core.Option.{Option·some-injective}
 use Prim.Native.Nat.{ℕ}
-use lib.ListN.{take}
 use lib.Seq.{length-take-le}
 use Rattle.mapping.specs.Results.{placed}
 use borrow.Author.Needs.{needs}

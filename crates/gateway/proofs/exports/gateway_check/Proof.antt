@@ -1,16 +1,14 @@
 -- `gateway::exports::gateway_check` meets its contract.
 -- Assumes nothing.
-use mathlib.Core.Path.{_≡_, refl, sym, ap, _∙_}
+use mathlib.Core.Path.{_≡_, ap, subst}
 use mathlib.Core.Bool.{true}
-use Prim.Native.Nat.{_≤_}
+use Prim.Native.Nat.{_≤_, ℕ, _+_, _*_}
 use native.Mathlib.Omega.{arith}
 use Rattle.oraddr.specs.Canonical.{canonicalRecord}
 use Rattle.table.specs.Lines.{loadedFrom}
 use Rattle.soundness.specs.Check.{checkLine, checkNumber, toldCheck}
 use Rattle.gateway.proofs.Laws.Bounds.{mostCount}
 use Rattle.gateway.proofs.Laws.Exports.{check-line, shown-size, tells-malformed, tells-sound, tells-witness, witness-canonical}
-use Prim.Native.Nat.{ℕ, _+_, _*_}
-use mathlib.Core.Path.{subst}
 use Rattle.gateway.specs.Exports.{ExportedCheck}
 use borrow.Author.Needs.{needs}
 use Rattle.gateway.proofs.exports.gateway_check.Statement.{statement}

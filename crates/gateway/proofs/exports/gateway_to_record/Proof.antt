@@ -5,12 +5,9 @@ use mathlib.Core.Bool.{true}
 use Prim.Native.Nat.{ℕ, _+_, _*_, _≤_}
 use Rattle.oraddr.specs.Canonical.{canonicalRecord}
 use native.Mathlib.Omega.{arith}
-use Rattle.mapping.specs.Answers.{recordLine}
 use Rattle.gateway.specs.Exports.{addressToText}
 use Rattle.gateway.proofs.Laws.Bounds.{mostCount}
-use Rattle.gateway.proofs.Laws.Exports.{exported, line-small, text-canonical, text-counts, text-done, text-not}
-use Rattle.mapping.specs.Answers.{recordNumber}
-use Rattle.gateway.proofs.Laws.Exports.{refused-small}
+use Rattle.gateway.proofs.Laws.Exports.{exported, line-small, text-canonical, text-counts, text-done, text-not, refused-small}
 use borrow.Author.Needs.{needs}
 use Rattle.gateway.proofs.exports.gateway_to_record.Statement.{statement}
 use Rattle.gateway.proofs.exports.gateway_to_record.Tie as tie

@@ -1,6 +1,6 @@
 -- `gateway::exports::pack` meets its contract.
 -- Assumes nothing.
-use mathlib.Core.Path.{ap, sym, _∙_}
+use mathlib.Core.Path.{sym}
 use native.Mathlib.Omega.{arith}
 use borrow.Author.Tests.{ne-eqb}
 use Rattle.mapping.specs.Answers.{toldAddress}

@@ -7,7 +7,6 @@ use Rattle.table.specs.declared.load.TableRead.{TableRead}
 use Rattle.mapping.specs.Results.{malformedRecord}
 use Rattle.mapping.specs.ToRecord.{toRecord, toRecordBy}
 use Rattle.router.specs.Line.{recordLine, refusedLine}
-use Rattle.router.specs.Run.{Ready}
 use Rattle.router.proofs.Laws.Line.{wrote-as}
 use borrow.Author.Needs.{needs}
 use Rattle.router.proofs.line.answer_address.Statement.{statement}

@@ -1,13 +1,12 @@
 -- `router::line::answer_line` meets its contract.
 -- Assumes nothing.
 use native.Mathlib.Omega.{arith}
-use lib.ListN.{drop, getD}
+use lib.ListN.{drop, getD, length, take, length-drop}
 use Rattle.table.specs.Load.{loadAnswer}
 use Rattle.router.specs.Line.{lineAnswer, refusedLine, taggedLine}
 use Rattle.router.proofs.Laws.Line.{line-over, line-short, line-tagged, line-untabbed, wrote-as}
 use mathlib.Core.Path.{ap, _∙_}
 use Prim.Native.Nat.{_-_}
-use lib.ListN.{length, take, length-drop}
 use lib.Seq.{take-all}
 use borrow.Author.Needs.{needs}
 use Rattle.router.proofs.line.answer_line.Statement.{statement}

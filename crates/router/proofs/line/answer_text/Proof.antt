@@ -3,7 +3,6 @@
 use mathlib.Core.Path.{sym, ap, _∙_}
 use Rattle.table.specs.Lines.{wellFormed}
 use Rattle.table.specs.Load.{loadAnswer}
-use Rattle.table.specs.Rows.{tableAt}
 use Rattle.table.specs.declared.load.TableRead.{TableRead}
 use Rattle.mapping.specs.Answers.{outward}
 use Rattle.router.specs.Line.{refusedLine, textLine}

@@ -1,10 +1,10 @@
 -- `router::line::place_answer` meets its contract.
 -- Assumes nothing.
-use mathlib.Core.Path.{_≡_, sym, ap, subst, _∙_}
+use mathlib.Core.Path.{sym, subst}
 use mathlib.Core.List.{List}
 use Prim.Native.Nat.{ℕ, _≤_}
 use native.Mathlib.Omega.{arith}
-use lib.ListN.{length, take}
+use lib.ListN.{length}
 use lib.Seq.{length-take-le}
 use Rattle.chars.proofs.Laws.Write.{wrote-length, wrote-taken}
 use Rattle.table.specs.Load.{loadAnswer}

@@ -6,7 +6,7 @@ use Rattle.router.specs.Line.{doneLine}
 use mathlib.Core.Path.{_∙_}
 use mathlib.Core.List.{_∷_}
 use native.Mathlib.Omega.{arith}
-use lib.ListN.{length, set, length-set}
+use lib.ListN.{set, length-set}
 use borrow.Author.Needs.{needs}
 use Rattle.router.proofs.line.put_done.Statement.{statement}
 use Rattle.router.proofs.line.put_done.Tie as tie

@@ -3,7 +3,6 @@
 use Rattle.chars.proofs.Laws.Write.{wrote-length, wrote-one, wrote-then}
 use Rattle.router.specs.Line.{doneLine}
 use mathlib.Core.Path.{_∙_}
-use Prim.Native.Nat.{_+_}
 use native.Mathlib.Omega.{arith}
 use lib.ListN.{length, set, length-set}
 use Rattle.oraddr.specs.View.{view}

@@ -1,7 +1,6 @@
 -- `router::line::read_line` meets its contract.
 -- Assumes nothing.
 use mathlib.Core.Path.{ap}
-use Rattle.oraddr.specs.declared.record.Record.{Record}
 use Rattle.ortext.specs.Answers.{answered, reading}
 use Rattle.ortext.specs.Apply.{again, read, refused, unread}
 use Rattle.ortext.specs.declared.read.Answer.{Answer}

@@ -1,6 +1,6 @@
 -- `router::run::route` meets its contract.
 -- Assumes nothing.
-use mathlib.Core.Path.{sym, subst}
+use mathlib.Core.Path.{sym, subst, _≡_}
 use mathlib.Core.Bool.{Bool, true}
 use native.Mathlib.Omega.{arith}
 use borrow.Author.Tests.{not-false, not-true}
@@ -8,7 +8,6 @@ use Rattle.chars.proofs.Laws.Parts.{run-le}
 use Rattle.table.specs.Load.{loadAnswer}
 use Rattle.router.specs.Run.{RoutingFrom}
 use Rattle.router.proofs.Laws.Run.{routing-more, routing-then, went-skip}
-use mathlib.Core.Path.{_≡_}
 use Prim.Native.Nat.{_≤_, _<_}
 use lib.ListN.{length}
 use borrow.Author.Needs.{needs}

@@ -1,20 +1,18 @@
 -- `router::run::route_from` meets its contract.
 -- Assumes nothing.
-use mathlib.Core.Path.{_≡_, refl, sym, ap, _∙_}
+use mathlib.Core.Path.{_≡_, refl, ap, _∙_, subst}
 use mathlib.Core.Bool.{false}
 use mathlib.Core.List.{List}
 use Prim.Native.Nat.{ℕ, _-_, _+_, _≤_, _<_}
 use native.Mathlib.Omega.{arith}
 use lib.ListN.{length, take, drop, length-drop}
 use Rattle.chars.specs.Parts.{run}
-use Rattle.chars.specs.Write.{Wrote}
 use Rattle.chars.proofs.Laws.Parts.{run-le}
 use Rattle.table.specs.Load.{loadAnswer}
 use Rattle.router.specs.Line.{lineAnswer}
 use Rattle.router.specs.Run.{Went}
 use Rattle.router.proofs.Laws.Line.{wrote-as}
 use Rattle.router.proofs.Laws.Run.{routing-end, routing-full, routing-then, went-line, went-start, went-then}
-use mathlib.Core.Path.{subst}
 use borrow.Author.Needs.{needs}
 use Rattle.router.proofs.run.route_from.Statement.{statement}
 use Rattle.router.proofs.run.route_from.Tie as tie

@@ -1,0 +1,61 @@
+-- `orroute::run` meets its contract.
+-- Assumes nothing.
+use mathlib.Core.Path.{_≡_}
+use Prim.Native.Nat.{_≤_}
+use native.Mathlib.Omega.{arith}
+use lib.ListN.{length}
+use borrow.Author.Needs.{needs}
+use Rattle.orroute.proofs.run.Statement.{statement}
+use Rattle.orroute.proofs.run.Tie as tie
+
+abbrev Inv-loop : tie.InvT-loop
+Inv-loop text to-path to-domain read input₀ out₀ over₀ size₀ turns₀ input out over size turns = (length input ≡ 65536) × (length out ≡ 65536) × (size ≤ 4096)
+
+abbrev μ-loop : tie.MeasureT-loop
+μ-loop text to-path to-domain read input₀ out₀ over₀ size₀ turns₀ input out over size turns = turns
+
+loop-holds : tie.Need-loop-holds Inv-loop μ-loop
+loop-holds c = search needs
+
+slice-aggregate-step : tie.Need-slice-aggregate-step Inv-loop μ-loop
+slice-aggregate-step c = search needs
+
+slice-aggregate-step-2 : tie.Need-slice-aggregate-step-2 Inv-loop μ-loop
+slice-aggregate-step-2 c = search needs
+
+step-requires : tie.Need-step-requires Inv-loop μ-loop
+step-requires c κs =
+    let l = c .before .before .before .loop in
+    let start = c .before .before .before .before .before .before .before in
+    (start .pre, (l .inv .2, (omega (arith, l .inv .0), omega (arith, l .inv .1))))
+
+returns : tie.Need-returns Inv-loop μ-loop
+returns c = search needs
+
+sub-turns : tie.Need-sub-turns Inv-loop μ-loop
+sub-turns c = search needs
+
+loop-less : tie.Need-loop-less Inv-loop μ-loop
+loop-less c = search needs
+
+loop-again : tie.Need-loop-again Inv-loop μ-loop
+loop-again c = search needs
+
+returns-2 : tie.Need-returns-2 Inv-loop μ-loop
+returns-2 c = search needs
+
+pub run-spec : {M : Type 1} → statement M
+run-spec =
+    tie.close
+    (tie.spec
+    Inv-loop
+    μ-loop
+    loop-holds
+    slice-aggregate-step
+    slice-aggregate-step-2
+    step-requires
+    returns
+    sub-turns
+    loop-less
+    loop-again
+    returns-2)
