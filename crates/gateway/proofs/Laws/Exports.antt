@@ -125,7 +125,7 @@ text-counts r old new w c e =
 -- ---- a record text to an address
 
 -- an empty record has no C
-not-canonical : canonicalRecord emptyRecord ≡ false
+pub not-canonical : canonicalRecord emptyRecord ≡ false
 unfolding nonEmpty singleOf
 not-canonical =
     by-test (canonicalRecord emptyRecord)

@@ -1,0 +1,347 @@
+-- Every statement of `specs/Promises.antt` is so.
+-- Assumes nothing.
+use mathlib.Core.Path.{_≡_, refl, sym, ap, subst, _∙_}
+use mathlib.Core.Logic.{inl, inr}
+use mathlib.Core.Bool.{true, false}
+use mathlib.Core.List.{List, [], _∷_}
+use mathlib.Core.Option.{Option, none, some}
+use Prim.Native.Nat.{ℕ, _≤_, _<_}
+use native.Mathlib.Omega.{arith}
+use borrow.Author.Tests.{eqb-true, le-ltb, lt-ltb, ltb-false}
+use lib.Dec.{eqb, ltb}
+use lib.ListN.{length}
+use Rattle.chars.specs.Lists.{member}
+use Rattle.chars.specs.Write.{front}
+use Rattle.chars.proofs.Laws.Lists.{by-test, true-not-false}
+use Rattle.chars.proofs.Laws.Write.{drop-front, length-front}
+use Rattle.oraddr.specs.Canonical.{canonicalRecord}
+use Rattle.oraddr.specs.View.{emptyRecord, view}
+use Rattle.oraddr.specs.declared.record.Record.{Record}
+use Rattle.ortext.specs.Apply as apply
+use Rattle.ortext.specs.Apply.{again, read, readText, refused, unread}
+use Rattle.ortext.specs.Keys.{keys}
+use Rattle.ortext.specs.Write.{recordText}
+use Rattle.mailaddr.specs.Answers.{Shaping, fromShape, noShape, shaped, shaping, tooLong}
+use Rattle.mailaddr.specs.Code.{coded}
+use Rattle.mailaddr.specs.Shape.{Address, longestAddress, shapeOf}
+use Rattle.table.specs.Lines.{Loaded, loadedFrom, malformed, wellFormed}
+use Rattle.table.specs.Table.{Table}
+use Rattle.mapping.specs.Carried.{carriedWhole, carrierOf, carrying, longestCoded, resultOf}
+use Rattle.mapping.specs.Results.{RecordResult, malformedAddress, malformedRecord, mapped, placed, refusedAddress, refusedRecord}
+use Rattle.mapping.specs.ToAddress.{addressOf, placedIn, recordToAddress, toAddress, toAddressBy}
+use Rattle.mapping.specs.ToRecord.{addressToRecord, recordBy, recordIn, toRecord, toRecordBy}
+use Rattle.mapping.proofs.Laws.CarriedBack.{carried-back-text}
+use Rattle.mapping.proofs.Laws.Whole.{returned-canonical}
+use Rattle.soundness.specs.Check.{CheckResult, Demand3}
+use Rattle.soundness.specs.Sound.{Sound}
+use Rattle.router.proofs.Laws.Calls.{call-moves, calls-whole}
+use Rattle.router.proofs.Laws.Line.{loaded-rules}
+use Rattle.gateway.specs.Exports.{addressToText, readingToAddress, textResult, textToAddress, textToAddressBy}
+use Rattle.gateway.specs.Promises.{Accepted, AddressRules, Demand1, Demand2, Demand3Exactly, EndsBuffer, EndsRecord, Judgement, Promises, RecordRules, Router}
+use Rattle.gateway.specs.Texts.{readOutcome, recordOfText, textOfRecord}
+use Rattle.gateway.proofs.Laws.Exports.{not-canonical}
+
+-- ---- demand 1
+
+-- of address to record
+by-shape : (t : Table) (s : List ℕ) (x : Shaping) → EndsRecord (1 ∷ 2 ∷ 3 ∷ 7 ∷ []) (recordBy t s x .number) (recordBy t s x .record')
+unfolding recordBy refusedRecord carrying mapped member
+by-shape t s tooLong = inr (refl, refl)
+by-shape t s noShape = inr (refl, refl)
+by-shape t s (shaped a) =
+    by-test (carriedWhole t a)
+    (λ c. by-test (ltb longestCoded (length (coded s))) (λ e. rw (c, e) (inr (refl, refl))) (λ e. rw (c, e) (inl refl)))
+    (λ c. rw c (inl refl))
+
+record-ends : (l : Loaded) (s : List ℕ) → EndsRecord (1 ∷ 2 ∷ 3 ∷ 7 ∷ []) (toRecordBy l s .number) (toRecordBy l s .record')
+unfolding toRecordBy malformedRecord toRecord member
+record-ends (malformed n) s = inr (refl, refl)
+record-ends (wellFormed t) s = by-shape t s (shaping s)
+
+-- of a text in a buffer
+module _ (numbers old : List ℕ) where
+  left : (n : ℕ) → member n numbers ≡ true → EndsBuffer numbers old (refusedAddress n old)
+  unfolding refusedAddress
+  left n h = inr (record { number = h; size = refl; buffer = refl })
+
+  left-malformed : (n : ℕ) → member 7 numbers ≡ true → EndsBuffer numbers old (malformedAddress n old)
+  unfolding malformedAddress
+  left-malformed n h = inr (record { number = h; size = refl; buffer = refl })
+
+  placed-ends : (s : List ℕ) → member 6 numbers ≡ true → EndsBuffer numbers old (placed s old)
+  unfolding placed
+  placed-ends s h =
+      by-test (ltb (length old) (length s))
+      (λ e. rw e (left 6 h))
+      (λ e.
+      let f : length s ≤ length old = ltb-false (length old) (length s) e in
+      rw e (inl (record { done = refl; fits = f; same = length-front s old f; rest = drop-front s old })))
+
+-- of record to address
+table-ends : (t : Table) (r : Record) (old : List ℕ) → EndsBuffer (4 ∷ 5 ∷ 6 ∷ 7 ∷ []) old (toAddress t r old)
+unfolding toAddress member
+table-ends t r old =
+    by-test (canonicalRecord r)
+    (λ c. rw c (by-text (addressOf t (view r))))
+    (λ c. rw c (left (4 ∷ 5 ∷ 6 ∷ 7 ∷ []) old 4 refl))
+  where
+    by-text : (o : Option (List ℕ)) → EndsBuffer (4 ∷ 5 ∷ 6 ∷ 7 ∷ []) old (placedIn old o)
+    by-text none = left (4 ∷ 5 ∷ 6 ∷ 7 ∷ []) old 5 refl
+    by-text (some s) = placed-ends (4 ∷ 5 ∷ 6 ∷ 7 ∷ []) old s refl
+
+address-ends : (l : Loaded) (r : Record) (old : List ℕ) → EndsBuffer (4 ∷ 5 ∷ 6 ∷ 7 ∷ []) old (toAddressBy l r old)
+unfolding toAddressBy member
+address-ends (malformed n) r old = left-malformed (4 ∷ 5 ∷ 6 ∷ 7 ∷ []) old n refl
+address-ends (wellFormed t) r old = table-ends t r old
+
+-- of record text
+outcome-ends : (x : apply.Reading) → EndsRecord (4 ∷ []) (readOutcome x .number) (readOutcome x .record')
+unfolding readOutcome member
+outcome-ends unread = inr (refl, refl)
+outcome-ends refused = inr (refl, refl)
+outcome-ends again = inr (refl, refl)
+outcome-ends (read r) = by-test (canonicalRecord r) (λ c. rw c (inl refl)) (λ c. rw c (inr (refl, refl)))
+
+-- of the functions for C
+one-more : (n : ℕ) → member n (1 ∷ 2 ∷ 3 ∷ 7 ∷ []) ≡ true → member n (1 ∷ 2 ∷ 3 ∷ 6 ∷ 7 ∷ []) ≡ true
+unfolding member
+one-more n h =
+    by-test (eqb n 6)
+    (λ e. let z : n ≡ 6 = eqb-true n 6 e in rw z)
+    (λ e. rw e h)
+
+text-ends : (o : RecordResult) (old : List ℕ) → EndsRecord (1 ∷ 2 ∷ 3 ∷ 7 ∷ []) (o .number) (o .record') → EndsBuffer (1 ∷ 2 ∷ 3 ∷ 6 ∷ 7 ∷ []) old (textResult o old)
+unfolding textResult member
+text-ends o old (inl z) = rw z (placed-ends (1 ∷ 2 ∷ 3 ∷ 6 ∷ 7 ∷ []) old (recordText keys (view (o .record'))) refl)
+text-ends o old (inr h) =
+    by-test (eqb (o .number) 0)
+    (λ e. rw e (placed-ends (1 ∷ 2 ∷ 3 ∷ 6 ∷ 7 ∷ []) old (recordText keys (view (o .record'))) refl))
+    (λ e. rw e (inr (record { number = one-more (o .number) (h .0); size = refl; buffer = refl })))
+
+reading-ends : (t : Table) (x : apply.Reading) (old : List ℕ) → EndsBuffer (4 ∷ 5 ∷ 6 ∷ 7 ∷ []) old (readingToAddress t x old)
+unfolding readingToAddress member
+reading-ends t unread old = left (4 ∷ 5 ∷ 6 ∷ 7 ∷ []) old 4 refl
+reading-ends t refused old = left (4 ∷ 5 ∷ 6 ∷ 7 ∷ []) old 4 refl
+reading-ends t again old = left (4 ∷ 5 ∷ 6 ∷ 7 ∷ []) old 4 refl
+reading-ends t (read r) old = table-ends t r old
+
+sent-ends : (l : Loaded) (s old : List ℕ) → EndsBuffer (4 ∷ 5 ∷ 6 ∷ 7 ∷ []) old (textToAddressBy l s old)
+unfolding textToAddressBy member
+sent-ends (malformed n) s old = left-malformed (4 ∷ 5 ∷ 6 ∷ 7 ∷ []) old n refl
+sent-ends (wellFormed t) s old = reading-ends t (readText keys 0 emptyRecord s) old
+
+written-ends : (r : Record) (old : List ℕ) → EndsBuffer (4 ∷ 6 ∷ []) old (textOfRecord r old)
+unfolding textOfRecord member
+written-ends r old =
+    by-test (canonicalRecord r)
+    (λ c. rw c (placed-ends (4 ∷ 6 ∷ []) old (recordText keys (view r)) refl))
+    (λ c. rw c (left (4 ∷ 6 ∷ []) old 4 refl))
+
+pub demand1 : Demand1
+unfolding addressToRecord recordToAddress recordOfText addressToText textToAddress
+demand1 =
+    record {
+      to-record = λ table s. record-ends (loadedFrom table) s;
+      to-address = λ table r old. address-ends (loadedFrom table) r old;
+      read-record = λ s. outcome-ends (readText keys 0 emptyRecord s);
+      write-record = written-ends;
+      address-text = λ table s old. text-ends (toRecordBy (loadedFrom table) s) old (record-ends (loadedFrom table) s);
+      text-address = λ table s old. sent-ends (loadedFrom table) s old;
+    }
+
+-- ---- demand 2
+
+-- the shape of a text that is too long, and of one that is not
+long-shape : (s : List ℕ) → longestAddress < length s → shaping s ≡ tooLong
+unfolding shaping
+long-shape s l = rw (lt-ltb longestAddress (length s) l)
+
+short-shape : (s : List ℕ) (o : Option Address) → length s ≤ longestAddress → shapeOf s ≡ o → shaping s ≡ fromShape o
+unfolding shaping
+short-shape s o l h = rw (le-ltb longestAddress (length s) l, h)
+
+-- what is read of an address that is not carried whole is a record
+read-whole : (x : apply.Reading) → canonicalRecord (recordIn x) ≡ true → x ≡ read (recordIn x)
+unfolding recordIn
+read-whole unread h = true-not-false (canonicalRecord emptyRecord) h not-canonical
+read-whole refused h = true-not-false (canonicalRecord emptyRecord) h not-canonical
+read-whole again h = true-not-false (canonicalRecord emptyRecord) h not-canonical
+read-whole (read r) h = refl
+
+module _ (table s : List ℕ) where
+  malformed-seven : (n : ℕ) → loadedFrom table ≡ malformed n → addressToRecord table s ≡ malformedRecord n
+  unfolding addressToRecord toRecordBy
+  malformed-seven n h = rw h
+
+  module _ (t : Table) (h : loadedFrom table ≡ wellFormed t) where
+    under : addressToRecord table s ≡ toRecord t s
+    unfolding addressToRecord toRecordBy
+    under = rw h
+
+    by-shaping : (x : Shaping) → shaping s ≡ x → addressToRecord table s ≡ recordBy t s x
+    unfolding toRecord
+    by-shaping x e = under ∙ ap (recordBy t s) e
+
+    long-two : longestAddress < length s → addressToRecord table s ≡ refusedRecord 2
+    unfolding recordBy
+    long-two l = by-shaping tooLong (long-shape s l)
+
+    shapeless-one : length s ≤ longestAddress → shapeOf s ≡ none → addressToRecord table s ≡ refusedRecord 1
+    unfolding recordBy fromShape
+    shapeless-one l e = by-shaping noShape (short-shape s none l e)
+
+    module _ (a : Address) (l : length s ≤ longestAddress) (e : shapeOf s ≡ some a) where
+      of-shape : shaping s ≡ shaped a
+      unfolding fromShape
+      of-shape = short-shape s (some a) l e
+
+      is-carried : carriedWhole t a ≡ true → addressToRecord table s ≡ carrying (t .gateway .path) s
+      unfolding recordBy
+      is-carried c = by-shaping (shaped a) of-shape ∙ rw c
+
+      coded-three : carriedWhole t a ≡ true → longestCoded < length (coded s) → addressToRecord table s ≡ refusedRecord 3
+      unfolding carrying
+      coded-three c k = is-carried c ∙ rw (lt-ltb longestCoded (length (coded s)) k)
+
+      carried-whole : carriedWhole t a ≡ true → length (coded s) ≤ longestCoded → addressToRecord table s ≡ mapped (carrierOf (t .gateway .path) s)
+      unfolding carrying
+      carried-whole c k = is-carried c ∙ rw (le-ltb longestCoded (length (coded s)) k)
+
+      is-read : carriedWhole t a ≡ false → addressToRecord table s ≡ mapped (recordIn (resultOf t a))
+      unfolding recordBy
+      is-read c = by-shaping (shaped a) of-shape ∙ rw c
+
+      reads : carriedWhole t a ≡ false → resultOf t a ≡ read (recordIn (resultOf t a))
+      unfolding mapped
+      reads c =
+          read-whole (resultOf t a)
+          (ap (λ (o : RecordResult). canonicalRecord (o .record')) (sym (is-read c)) ∙ ap (λ (o : RecordResult). canonicalRecord (o .record')) under ∙ returned-canonical t s a of-shape c)
+
+  record-rules : RecordRules table s
+  record-rules =
+      record {
+        seven = malformed-seven;
+        two = λ t h l. long-two t h l;
+        one = λ t h l e. shapeless-one t h l e;
+        three = λ t a h l e c k. coded-three t h a l e c k;
+        carried = λ t a h l e c k. carried-whole t h a l e c k;
+        read-in = λ t a h l e c. (is-read t h a l e c, reads t h a l e c);
+      }
+
+module _ (table : List ℕ) (r : Record) (old : List ℕ) where
+  sent-seven : (n : ℕ) → loadedFrom table ≡ malformed n → recordToAddress table r old ≡ malformedAddress n old
+  unfolding recordToAddress toAddressBy
+  sent-seven n h = rw h
+
+  module _ (t : Table) (h : loadedFrom table ≡ wellFormed t) where
+    sent-under : recordToAddress table r old ≡ toAddress t r old
+    unfolding recordToAddress toAddressBy
+    sent-under = rw h
+
+    sent-four : canonicalRecord r ≡ false → recordToAddress table r old ≡ refusedAddress 4 old
+    unfolding toAddress
+    sent-four c = sent-under ∙ rw c
+
+    sent-by : (o : Option (List ℕ)) → canonicalRecord r ≡ true → addressOf t (view r) ≡ o → recordToAddress table r old ≡ placedIn old o
+    unfolding toAddress
+    sent-by o c e = sent-under ∙ rw (c, e)
+
+    sent-five : canonicalRecord r ≡ true → addressOf t (view r) ≡ none → recordToAddress table r old ≡ refusedAddress 5 old
+    unfolding placedIn
+    sent-five c e = sent-by none c e
+
+    module _ (s : List ℕ) (c : canonicalRecord r ≡ true) (e : addressOf t (view r) ≡ some s) where
+      sent-placed : recordToAddress table r old ≡ placed s old
+      unfolding placedIn
+      sent-placed = sent-by (some s) c e
+
+      sent-six : length old < length s → recordToAddress table r old ≡ refusedAddress 6 old
+      unfolding placed
+      sent-six k = sent-placed ∙ rw (lt-ltb (length old) (length s) k)
+
+      sent-done : length s ≤ length old → recordToAddress table r old ≡ record { number = 0; line = 0; size = length s; buffer = front s old }
+      unfolding placed
+      sent-done k = sent-placed ∙ rw (le-ltb (length old) (length s) k)
+
+  address-rules : AddressRules table r old
+  address-rules =
+      record {
+        seven = sent-seven;
+        four = λ t h c. sent-four t h c;
+        five = λ t h c e. sent-five t h c e;
+        six = λ t s h c e k. sent-six t h s c e k;
+        done = λ t s h c e k. sent-done t h s c e k;
+      }
+
+pub demand2 : Demand2
+unfolding fromShape
+demand2 =
+    record {
+      to-record = record-rules;
+      to-address = address-rules;
+      carried-back = λ table s old t a h l e c n m. carried-back-text table s old t a h (short-shape s (some a) l e) c n m;
+    }
+
+-- ---- demand 3
+
+-- a text comes to one thing
+other-table : {A : Type 0} (t : Table) (n : ℕ) → wellFormed t ≡ malformed n → A
+other-table t n h = let z : _≡_ {A = ℕ} 0 1 = cc in absurd (omega arith)
+
+tableOf : Table → Loaded → Table
+tableOf u (malformed n) = u
+tableOf u (wellFormed t) = t
+
+same-table : (t u : Table) → wellFormed t ≡ wellFormed u → t ≡ u
+unfolding tableOf
+same-table t u h = ap (tableOf u) h
+
+module _ (table : List ℕ) (o : CheckResult) where
+  judgement : (l : Loaded) → loadedFrom table ≡ l → Demand3 l o → Judgement table o
+  unfolding member
+  judgement (malformed n) e d =
+      record {
+        accepts = λ z. absurd (omega (arith, d .number));
+        accepted = λ a. other-table (a .spelled) n (sym (a .formed) ∙ e);
+        shows = λ z. absurd (omega (arith, d .number));
+        malformed-line = λ z. e ∙ ap malformed (sym (d .line));
+        none-else = rw (d .number);
+      }
+  judgement (wellFormed t) e (inl a) =
+      record {
+        accepts = λ z. record { spelled = t; formed = e; sound = a .sound };
+        accepted = λ _. a .number;
+        shows = λ z. absurd (omega (arith, a .number));
+        malformed-line = λ z. absurd (omega (arith, a .number));
+        none-else = rw (a .number);
+      }
+  judgement (wellFormed t) e (inr r) =
+      record {
+        accepts = λ z. absurd (omega (arith, r .number));
+        accepted = λ a. absurd (lost a);
+        shows = λ z. record { spelled = t; formed = e; witness = r .witness };
+        malformed-line = λ z. absurd (omega (arith, r .number));
+        none-else = rw (r .number);
+      }
+    where
+      lost : Accepted table → ⊥
+      lost a =
+          let w = r .witness in
+          w .lost (subst Sound (same-table (a .spelled) t (sym (a .formed) ∙ e)) (a .sound) (o .record') (w .struct) (w .canonical) (w .free))
+
+pub demand3 : Demand3Exactly
+demand3 table o d = judgement table o (loadedFrom table) refl d
+
+-- ---- the router
+
+pub router : Router
+router =
+    record {
+      output = λ table input out c. calls-whole c;
+      moves = λ table s old new over last r c k z. call-moves (loaded-rules table) c k z;
+    }
+
+-- ---- all of it
+
+pub promises : Promises
+promises = record { demand1 = demand1; demand2 = demand2; demand3 = demand3; router = router }

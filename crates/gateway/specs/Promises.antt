@@ -1,0 +1,136 @@
+-- The page that a reader must believe: what Lesogrom promises, over the definitions that the contracts of `src/entry.rt` cite.
+-- Each entry point's result is an equation to one of them (`addressToRecord`, `recordToAddress`, `recordOfText`, `textOfRecord`, `sharedTail`),
+-- or says `Demand3` or `Routing` of it. `proofs/Promises.antt` proves every statement of this page.
+-- Assumes nothing.
+use mathlib.Core.Path.{_≡_}
+use mathlib.Core.Logic.{_⊎_}
+use mathlib.Core.Bool.{Bool, true, false}
+use mathlib.Core.List.{List, [], _∷_}
+use mathlib.Core.Option.{none, some}
+use Prim.Native.Nat.{ℕ, _≤_, _<_}
+use lib.ListN.{length, drop}
+use Rattle.chars.specs.Lists.{member}
+use Rattle.chars.specs.Write.{front}
+use Rattle.oraddr.specs.Canonical.{canonicalRecord}
+use Rattle.oraddr.specs.View.{emptyRecord, view}
+use Rattle.oraddr.specs.declared.record.Record.{Record}
+use Rattle.ortext.specs.Apply.{read}
+use Rattle.mailaddr.specs.Code.{coded}
+use Rattle.mailaddr.specs.Shape.{Address, longestAddress, shapeOf}
+use Rattle.table.specs.Lines.{loadedFrom, malformed, wellFormed}
+use Rattle.table.specs.Table.{Table}
+use Rattle.mapping.specs.Carried.{carriedWhole, carrierOf, longestCoded, resultOf}
+use Rattle.mapping.specs.Results.{AddressResult, malformedAddress, malformedRecord, mapped, refusedAddress, refusedRecord}
+use Rattle.mapping.specs.ToAddress.{addressOf, recordToAddress}
+use Rattle.mapping.specs.ToRecord.{addressToRecord, recordIn}
+use Rattle.soundness.specs.Check.{CheckResult, Demand3}
+use Rattle.soundness.specs.Sound.{Sound, Witness}
+use Rattle.router.specs.Line.{answerRoom}
+use Rattle.router.specs.Run.{Calls, Routing, Waits, whole}
+use Rattle.router.specs.declared.run.Routed.{Routed}
+use Rattle.gateway.specs.Exports.{addressToText, textToAddress}
+use Rattle.gateway.specs.Texts.{recordOfText, textOfRecord}
+
+-- ---- demand 1: "a result or a numbered refusal; a refusal returns an empty record or length 0 and leaves the lent buffer as it was"
+
+-- a record with 0, or one of these numbers and an empty record
+abbrev pub EndsRecord : List ℕ → ℕ → Record → Type 0
+EndsRecord numbers n r = (n ≡ 0) ⊎ ((member n numbers ≡ true) × (r ≡ emptyRecord))
+
+-- 0 with a text at the front of the buffer and the rest as before; or one of these numbers, length 0 and the buffer as it was
+pub record Written (old : List ℕ) (o : AddressResult) : Type 0 where
+  pub done : o .number ≡ 0
+  pub fits : o .size ≤ length old
+  pub same : length (o .buffer) ≡ length old
+  pub rest : drop (o .size) (o .buffer) ≡ drop (o .size) old
+
+pub record Left (numbers old : List ℕ) (o : AddressResult) : Type 0 where
+  pub number : member (o .number) numbers ≡ true
+  pub size : o .size ≡ 0
+  pub buffer : o .buffer ≡ old
+
+abbrev pub EndsBuffer : List ℕ → List ℕ → AddressResult → Type 0
+EndsBuffer numbers old o = Written old o ⊎ Left numbers old o
+
+pub record Demand1 : Type 0 where
+  pub to-record : (table s : List ℕ) → EndsRecord (1 ∷ 2 ∷ 3 ∷ 7 ∷ []) (addressToRecord table s .number) (addressToRecord table s .record')
+  pub to-address : (table : List ℕ) (r : Record) (old : List ℕ) → EndsBuffer (4 ∷ 5 ∷ 6 ∷ 7 ∷ []) old (recordToAddress table r old)
+  pub read-record : (s : List ℕ) → EndsRecord (4 ∷ []) (recordOfText s .number) (recordOfText s .record')
+  pub write-record : (r : Record) (old : List ℕ) → EndsBuffer (4 ∷ 6 ∷ []) old (textOfRecord r old)
+  pub address-text : (table s old : List ℕ) → EndsBuffer (1 ∷ 2 ∷ 3 ∷ 6 ∷ 7 ∷ []) old (addressToText table s old)
+  pub text-address : (table s old : List ℕ) → EndsBuffer (4 ∷ 5 ∷ 6 ∷ 7 ∷ []) old (textToAddress table s old)
+
+-- ---- demand 2: "exactly document 01's, both ways, each refusal exactly when its rule says. An address carried whole comes back to the byte."
+
+-- "Order, address to record: 7, 2, 1, 3": one line a case, and no two can hold at once
+pub record RecordRules (table s : List ℕ) : Type 0 where
+  pub seven : (n : ℕ) → loadedFrom table ≡ malformed n → addressToRecord table s ≡ malformedRecord n
+  pub two : (t : Table) → loadedFrom table ≡ wellFormed t → longestAddress < length s → addressToRecord table s ≡ refusedRecord 2
+  pub one : (t : Table) → loadedFrom table ≡ wellFormed t → length s ≤ longestAddress → shapeOf s ≡ none → addressToRecord table s ≡ refusedRecord 1
+  pub three : (t : Table) (a : Address) → loadedFrom table ≡ wellFormed t → length s ≤ longestAddress → shapeOf s ≡ some a → carriedWhole t a ≡ true
+      → longestCoded < length (coded s) → addressToRecord table s ≡ refusedRecord 3
+  pub carried : (t : Table) (a : Address) → loadedFrom table ≡ wellFormed t → length s ≤ longestAddress → shapeOf s ≡ some a → carriedWhole t a ≡ true
+      → length (coded s) ≤ longestCoded → addressToRecord table s ≡ mapped (carrierOf (t .gateway .path) s)
+  pub read-in : (t : Table) (a : Address) → loadedFrom table ≡ wellFormed t → length s ≤ longestAddress → shapeOf s ≡ some a → carriedWhole t a ≡ false
+      → (addressToRecord table s ≡ mapped (recordIn (resultOf t a))) × (resultOf t a ≡ read (recordIn (resultOf t a)))
+
+-- "Record to address: 7, 4, 5, 6"
+pub record AddressRules (table : List ℕ) (r : Record) (old : List ℕ) : Type 0 where
+  pub seven : (n : ℕ) → loadedFrom table ≡ malformed n → recordToAddress table r old ≡ malformedAddress n old
+  pub four : (t : Table) → loadedFrom table ≡ wellFormed t → canonicalRecord r ≡ false → recordToAddress table r old ≡ refusedAddress 4 old
+  pub five : (t : Table) → loadedFrom table ≡ wellFormed t → canonicalRecord r ≡ true → addressOf t (view r) ≡ none
+      → recordToAddress table r old ≡ refusedAddress 5 old
+  pub six : (t : Table) (s : List ℕ) → loadedFrom table ≡ wellFormed t → canonicalRecord r ≡ true → addressOf t (view r) ≡ some s
+      → length old < length s → recordToAddress table r old ≡ refusedAddress 6 old
+  pub done : (t : Table) (s : List ℕ) → loadedFrom table ≡ wellFormed t → canonicalRecord r ≡ true → addressOf t (view r) ≡ some s
+      → length s ≤ length old → recordToAddress table r old ≡ record { number = 0; line = 0; size = length s; buffer = front s old }
+
+pub record Demand2 : Type 0 where
+  pub to-record : (table s : List ℕ) → RecordRules table s
+  pub to-address : (table : List ℕ) (r : Record) (old : List ℕ) → AddressRules table r old
+  pub carried-back : (table s old : List ℕ) (t : Table) (a : Address) → loadedFrom table ≡ wellFormed t → length s ≤ longestAddress → shapeOf s ≡ some a
+      → carriedWhole t a ≡ true → addressToRecord table s .number ≡ 0 → length s ≤ length old
+      → recordToAddress table (addressToRecord table s .record') old ≡ record { number = 0; line = 0; size = length s; buffer = front s old }
+
+-- ---- demand 3: "accepts a table exactly when it is well-formed and every canonical record that is no carrier comes back under it; when it
+-- refuses a well-formed table it shows a record that does not"
+
+-- the table text is well-formed, and the table that it spells is sound
+pub record Accepted (table : List ℕ) : Type 0 where
+  pub spelled : Table
+  pub formed : loadedFrom table ≡ wellFormed spelled
+  pub sound : Sound spelled
+
+-- it is well-formed, and the record does not come back
+pub record Shown (table : List ℕ) (r : Record) : Type 0 where
+  pub spelled : Table
+  pub formed : loadedFrom table ≡ wellFormed spelled
+  pub witness : Witness spelled r
+
+-- for any answer that the check's contract allows
+pub record Judgement (table : List ℕ) (o : CheckResult) : Type 0 where
+  pub accepts : o .number ≡ 0 → Accepted table
+  pub accepted : Accepted table → o .number ≡ 0
+  pub shows : o .number ≡ 8 → Shown table (o .record')
+  pub malformed-line : o .number ≡ 7 → loadedFrom table ≡ malformed (o .line)
+  pub none-else : member (o .number) (0 ∷ 7 ∷ 8 ∷ []) ≡ true
+
+abbrev pub Demand3Exactly : Type 0
+Demand3Exactly = (table : List ℕ) (o : CheckResult) → Demand3 (loadedFrom table) o → Judgement table o
+
+-- ---- the router: "however the input is cut into chunks as it arrives, and however small the room for output (from that of one answer up), the
+-- whole output is that of the whole input"
+
+pub record Router : Type 0 where
+  pub output : (table input out : List ℕ) → Calls (loadedFrom table) false [] input out → out ≡ whole (loadedFrom table) input
+  -- a call with room for one answer that takes nothing has nothing to answer
+  pub moves : (table s old new : List ℕ) (over last : Bool) (r : Routed) → Routing (loadedFrom table) over s last old r new
+      → answerRoom ≤ length old → r .taken ≡ 0 → Waits last s
+
+-- ---- all of it
+
+pub record Promises : Type 0 where
+  pub demand1 : Demand1
+  pub demand2 : Demand2
+  pub demand3 : Demand3Exactly
+  pub router : Router

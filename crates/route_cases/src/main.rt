@@ -1,0 +1,47 @@
+// Runs the router on the tables and inputs in data/, each input cut into pieces and answered in the least room. What must come out is what
+// an implementation of document 01 that was written apart from this one wrote for the whole input; tests/route_cases.py turns the runs of
+// tests/vectors/ into this program's files.
+//
+// Standard input is lines, two for a run: the name of its table, and that of its input. Printed of each run: its answers.
+mod feed;
+mod input;
+
+use feed::feed;
+use input::line_end;
+use input::read_file;
+
+// Standard input, at most; an input, at most; a table with one byte too many.
+const ROOM: usize = 65536;
+
+const INPUT_ROOM: usize = 65536;
+
+const TABLE_ROOM: usize = 65537;
+
+// Runs the input of a name under the table of a name.
+fn run_files(table: &[u8], input: &[u8]) {
+    let mut table_space = [0u8; TABLE_ROOM];
+    let t = read_file(table, &mut table_space);
+    let mut input_space = [0u8; INPUT_ROOM];
+    let n = read_file(input, &mut input_space);
+    feed(&table_space[..t], &input_space[..n]);
+}
+
+// Runs each pair of names. A table's name that ends the text has no input.
+fn run(s: &[u8]) {
+    let mut from = 0;
+    while from < s.len() {
+        let middle = line_end(s, from);
+        if middle == s.len() {
+            return;
+        }
+        let end = line_end(s, middle + 1);
+        run_files(&s[from..middle], &s[middle + 1..end]);
+        from = end + 1;
+    }
+}
+
+fn main() {
+    let mut space = [0u8; ROOM];
+    let n = io::read_full(libc::STDIN_FILENO, &mut space);
+    run(&space[..n]);
+}

@@ -1,0 +1,172 @@
+//! Safe functions over the library's exports. docs/include/gateway.h says what each does.
+
+/// The exports themselves.
+mod exports {
+    extern "C" {
+        pub fn gateway_to_record(
+            table: *const u8,
+            table_len: usize,
+            address: *const u8,
+            address_len: usize,
+            out: *mut u8,
+            out_len: usize,
+        ) -> usize;
+        pub fn gateway_to_address(
+            table: *const u8,
+            table_len: usize,
+            record_text: *const u8,
+            record_text_len: usize,
+            out: *mut u8,
+            out_len: usize,
+        ) -> usize;
+        pub fn gateway_check(
+            table: *const u8,
+            table_len: usize,
+            out: *mut u8,
+            out_len: usize,
+        ) -> usize;
+        pub fn gateway_shared_tail(
+            first: *const u8,
+            first_len: usize,
+            second: *const u8,
+            second_len: usize,
+        ) -> usize;
+        pub fn gateway_route(
+            table: *const u8,
+            table_len: usize,
+            over: bool,
+            input: *const u8,
+            input_len: usize,
+            last: bool,
+            out: *mut u8,
+            out_len: usize,
+            taken: *mut usize,
+            written: *mut usize,
+        ) -> bool;
+    }
+}
+
+/// Room for any answer.
+pub const ANSWER_ROOM: usize = 2563;
+
+/// Why there is no text.
+#[derive(Clone, Copy, Debug, PartialEq, Eq)]
+pub enum Refusal {
+    NoAddress,
+    LongAddress,
+    LongCarried,
+    NoRecord,
+    BadCarried,
+    /// The first bad line; 0 where the table is over 65,536 bytes.
+    BadTable(usize),
+}
+
+#[derive(Clone, Debug, PartialEq, Eq)]
+pub enum Verdict {
+    Sound,
+    /// The text of a record that does not come back.
+    Unsound(Vec<u8>),
+    /// The first bad line; 0 where the table is over 65,536 bytes.
+    Malformed(usize),
+}
+
+/// How far a call of `route` came.
+#[derive(Clone, Copy, Debug, PartialEq, Eq)]
+pub struct Routed {
+    /// What the next call takes as `over`.
+    pub over: bool,
+    pub taken: usize,
+    pub written: usize,
+}
+
+// A slice's pointer is never null, and `out`, being `&mut`, overlaps nothing: that is all that the exports ask of a caller.
+
+/// The text of an answer, which always fits in the room that was lent.
+fn text(answer: usize, out: &[u8]) -> Result<Vec<u8>, Refusal> {
+    let count = answer / 16;
+    match answer % 16 {
+        0 => Ok(out[..count].to_vec()),
+        1 => Err(Refusal::NoAddress),
+        2 => Err(Refusal::LongAddress),
+        3 => Err(Refusal::LongCarried),
+        4 => Err(Refusal::NoRecord),
+        5 => Err(Refusal::BadCarried),
+        7 => Err(Refusal::BadTable(count)),
+        number => unreachable!("a mapping with room answered {number}"),
+    }
+}
+
+/// The text of the record that an address maps to.
+pub fn to_record(table: &[u8], address: &[u8]) -> Result<Vec<u8>, Refusal> {
+    let mut out = [0; ANSWER_ROOM];
+    let answer = unsafe {
+        exports::gateway_to_record(
+            table.as_ptr(),
+            table.len(),
+            address.as_ptr(),
+            address.len(),
+            out.as_mut_ptr(),
+            out.len(),
+        )
+    };
+    text(answer, &out)
+}
+
+/// The address that a record, given as text, goes out under.
+pub fn to_address(table: &[u8], record_text: &[u8]) -> Result<Vec<u8>, Refusal> {
+    let mut out = [0; ANSWER_ROOM];
+    let answer = unsafe {
+        exports::gateway_to_address(
+            table.as_ptr(),
+            table.len(),
+            record_text.as_ptr(),
+            record_text.len(),
+            out.as_mut_ptr(),
+            out.len(),
+        )
+    };
+    text(answer, &out)
+}
+
+pub fn check(table: &[u8]) -> Verdict {
+    let mut out = [0; ANSWER_ROOM];
+    let answer =
+        unsafe { exports::gateway_check(table.as_ptr(), table.len(), out.as_mut_ptr(), out.len()) };
+    match (answer % 16, answer / 16) {
+        (0, _) => Verdict::Sound,
+        (7, line) => Verdict::Malformed(line),
+        (_, length) => Verdict::Unsound(out[..length].to_vec()),
+    }
+}
+
+/// The tail that two domains share by whole parts, letter case aside, inside the first.
+pub fn shared_tail<'a>(first: &'a [u8], second: &[u8]) -> &'a [u8] {
+    let length = unsafe {
+        exports::gateway_shared_tail(first.as_ptr(), first.len(), second.as_ptr(), second.len())
+    };
+    &first[first.len() - length..]
+}
+
+/// Answers the whole lines of `input`, the part of a run that has arrived and is not yet taken.
+pub fn route(table: &[u8], over: bool, input: &[u8], last: bool, out: &mut [u8]) -> Routed {
+    let (mut taken, mut written) = (0, 0);
+    let over = unsafe {
+        exports::gateway_route(
+            table.as_ptr(),
+            table.len(),
+            over,
+            input.as_ptr(),
+            input.len(),
+            last,
+            out.as_mut_ptr(),
+            out.len(),
+            &mut taken,
+            &mut written,
+        )
+    };
+    Routed {
+        over,
+        taken,
+        written,
+    }
+}

@@ -1,0 +1,130 @@
+/*
+ * gateway.h: mail addresses between RFC 822 and X.400 under a table, for C programs on x86-64 (System V calling convention).
+ * Link target/staticlib/libgateway.a, which `rt staticlib gateway` makes; beside it only the C library is needed.
+ *
+ * A table is a text of lines that end in LF, fields parted by single tabs:
+ *
+ *     G <tab> gateway's domain <tab> path       the first line, once
+ *     D <tab> domain <tab> path                 addresses at this domain, and at those below it, have this path
+ *     R <tab> domain <tab> path                 records with this path go out under this domain
+ *
+ * A path is two to eight fields: country, ADMD, PRMD (empty: left out), organisation, four units. At most 65,536 bytes and 512
+ * rows after the first line.
+ *
+ * An address is RFC 822's local-part@domain, at most 2,048 bytes. A record is an X.400 address as text:
+ *
+ *     /G=Ann/S=Lee/OU=Pilots/O=brack/PRMD=TOW/ADMD=PORTNET/C=XY/
+ *
+ * Keys: C, ADMD, PRMD, O, OU (up to four, the most significant rightmost), S surname, G given name, I initials, GQ generation,
+ * PN a whole personal name, DD.type a domain defined attribute, RFC-822 short for DD.RFC-822. In values `/` and `=` stand behind
+ * a `$`.
+ *
+ * What every function keeps to:
+ *
+ * - Any bytes and any lengths are taken. Nothing has to be checked before a call, and no text needs a NUL at its end; none is
+ *   written either.
+ * - No pointer is NULL, not even where its length is 0: hand over the address of any byte then.
+ * - `out`, `taken` and `written` do not overlap each other or any other argument. The texts that are only read may overlap.
+ * - Bytes of `out` behind the text that is written stay as they were. Where a function refuses, all of `out` stays as it was.
+ * - Nothing is kept between calls, there is no global state and no memory is allocated, so any number of threads may call any of
+ *   these at once, each with its own `out`. A thread with 256 kilobytes of stack has room for any call.
+ * - The table is read afresh by each call. For many lines under one table, gateway_route reads it once a call.
+ */
+#ifndef GATEWAY_H
+#define GATEWAY_H
+
+#include <stdbool.h>
+#include <stddef.h>
+#include <stdint.h>
+
+#ifdef __cplusplus
+extern "C" {
+#endif
+
+/*
+ * gateway_to_record, gateway_to_address and gateway_check return a number with a count above it:
+ *
+ *     size_t answer = gateway_to_record(...);
+ *     switch (GATEWAY_NUMBER(answer)) ...
+ */
+#define GATEWAY_NUMBER(answer) ((unsigned)((answer) % 16))
+#define GATEWAY_COUNT(answer) ((size_t)((answer) / 16))
+
+/* The numbers, and what the count is beside each. */
+#define GATEWAY_DONE 0          /* done; the length of the text at the front of `out` (0 from the check) */
+#define GATEWAY_NO_ADDRESS 1    /* the address is not of the form local-part@domain; 0 */
+#define GATEWAY_LONG_ADDRESS 2  /* the address is over 2,048 bytes; 0 */
+#define GATEWAY_LONG_CARRIED 3  /* no row fits, and the coded address is over the 128 characters that a record carries; 0 */
+#define GATEWAY_NO_RECORD 4     /* the text is no record text, or its record breaks a rule of X.400's; 0 */
+#define GATEWAY_BAD_CARRIED 5   /* the record carries an RFC 822 address, and its value does not decode to one; 0 */
+#define GATEWAY_SHORT_ROOM 6    /* `out` is shorter than the text; 0 */
+#define GATEWAY_BAD_TABLE 7     /* the table is malformed; its first bad line, from 1, or 0 where it is over 65,536 bytes */
+#define GATEWAY_UNSOUND_TABLE 8 /* from the check alone: the table is unsound; the length of the witness's text */
+
+/* Room for any answer: no text that a function writes at once, with the number, tab and LF of gateway_route, is longer. */
+#define GATEWAY_ANSWER_ROOM 2563
+
+/*
+ * Address to record: writes the record's text. An address that no rule of the table maps is carried whole, as a record at the
+ * gateway that holds the coded address, so that it comes back to the byte.
+ *
+ * Numbers, the first that holds: 7, 2, 1, 3, 6; else 0.
+ */
+size_t gateway_to_record(const uint8_t *table, size_t table_len, const uint8_t *address, size_t address_len, uint8_t *out,
+                         size_t out_len);
+
+/*
+ * Record to address: writes the address that a record, given as text, goes out under.
+ *
+ * Numbers, the first that holds: 7, 4, 5, 6; else 0.
+ */
+size_t gateway_to_address(const uint8_t *table, size_t table_len, const uint8_t *record_text, size_t record_text_len,
+                          uint8_t *out, size_t out_len);
+
+/*
+ * Checks a table. 0: it is sound, so that every record that does not itself carry an address comes back as it was (letter case
+ * aside) from the address that it goes out under. 8: it is not; the count is the length of the text of a witness, a record that
+ * does not come back, and the text is at the front of `out` if it fits there. If it does not, `out` stays as it was.
+ *
+ * Numbers, the first that holds: 7, 8; else 0.
+ */
+size_t gateway_check(const uint8_t *table, size_t table_len, uint8_t *out, size_t out_len);
+
+/*
+ * The length of the tail that two domains share by whole parts between dots, letter case aside: the last so many bytes of
+ * `first`. undertow.test and tow.test share `test`, 4 bytes. 0 where they share nothing.
+ */
+size_t gateway_shared_tail(const uint8_t *first, size_t first_len, const uint8_t *second, size_t second_len);
+
+/*
+ * Answers a run of lines, in parts as they arrive. A line is `A`, tab and an address, or `O`, tab and a record's text; it ends in
+ * LF, which the last may lack. Its answer is a line too: the number (one digit), and on 0 a tab and the other form. Any other
+ * line, and one over 4,096 bytes without its LF, is answered 1. Under a malformed table the others are answered 7.
+ *
+ * `input` is what has arrived and has not been taken; `last` says that no more will come; `over` is false at the first call of a
+ * run, and then what the call before returned. (It says that `input` goes on within a line over 4,096 bytes that already has
+ * its answer.) The answers to whole lines go to the front of `out`; *taken is how many bytes of `input` are done with, and *written
+ * how many of `out` are answers. A call stops only where the next answer does not fit in `out`, or where what is left is no
+ * whole line: at most 4,096 bytes without LF, and more may come. With GATEWAY_ANSWER_ROOM or more in `out`, each call thus gets
+ * on whenever there is a whole line.
+ *
+ *     bool over = false;
+ *     for (;;) {
+ *         have += bytes read behind input + have, last = whether that was the end;
+ *         do {
+ *             over = gateway_route(table, table_len, over, input, have, last, out, sizeof out, &taken, &written);
+ *             write out `written` bytes, move input + taken to the front of input, have -= taken;
+ *         } while (written > 0);
+ *         if (last) break;
+ *     }
+ *
+ * An input buffer of more than 4,096 bytes is never full after that.
+ */
+bool gateway_route(const uint8_t *table, size_t table_len, bool over, const uint8_t *input, size_t input_len, bool last,
+                   uint8_t *out, size_t out_len, size_t *taken, size_t *written);
+
+#ifdef __cplusplus
+}
+#endif
+
+#endif

@@ -1,0 +1,128 @@
+//! How often each answer of each function came up, and whether one that can come up did not.
+
+use std::collections::BTreeMap;
+
+use plain::mapping::{Clause, CLAUSES};
+
+const ALL_CLAUSES: [Clause; CLAUSES] = [
+    Clause::NoRow,
+    Clause::NoDomainPart,
+    Clause::PastBound,
+    Clause::PastOu4,
+    Clause::EmptyLocal,
+    Clause::LooseSpaces,
+    Clause::OtherCharacter,
+    Clause::NoReading,
+    Clause::UnknownKey,
+    Clause::RepeatedKey,
+    Clause::NameBesidePn,
+    Clause::PnIsNoName,
+    Clause::NamedAgain,
+    Clause::NotCanonical,
+];
+
+/// Every answer that can come up.
+const ANSWERS: &[(&str, &[&str])] = &[
+    ("to_record", &["0", "1", "2", "3", "6", "7", "7, line 0"]),
+    ("to_address", &["0", "4", "5", "6", "7", "7, line 0"]),
+    ("check", &["0", "7", "7, line 0", "8", "8, no room"]),
+    ("address mapped", &["by a row", "at the gateway"]),
+    (
+        "record sent",
+        &["as a name", "as record text", "as a carrier"],
+    ),
+    ("shared_tail", &["nothing", "a part", "all"]),
+    (
+        "route",
+        &[
+            "all is taken",
+            "waits for more",
+            "next does not fit",
+            "over",
+        ],
+    ),
+    ("route's lines", &["0", "1", "2", "3", "4", "5", "7"]),
+];
+
+pub struct Account {
+    answers: BTreeMap<(&'static str, &'static str), u64>,
+    clauses: [[u64; 2]; CLAUSES],
+    pub calls: u64,
+    pub tables: u64,
+    pub came_back: u64,
+}
+
+impl Account {
+    pub fn new() -> Account {
+        let answers = ANSWERS
+            .iter()
+            .flat_map(|(function, answers)| answers.iter().map(|answer| ((*function, *answer), 0)))
+            .collect();
+        Account {
+            answers,
+            clauses: [[0; 2]; CLAUSES],
+            calls: 0,
+            tables: 0,
+            came_back: 0,
+        }
+    }
+
+    /// An answer that is not in the list is one that cannot be right, and its comparison has failed before.
+    pub fn count(&mut self, function: &'static str, answer: &str) {
+        let (_, answers) = ANSWERS
+            .iter()
+            .find(|(known, _)| *known == function)
+            .expect("a function of the list");
+        if let Some(answer) = answers.iter().find(|known| **known == answer) {
+            *self.answers.get_mut(&(function, *answer)).expect("listed") += 1;
+        }
+    }
+
+    pub fn count_number(&mut self, function: &'static str, number: usize, line: usize) {
+        const NUMBERS: [&str; 9] = ["0", "1", "2", "3", "4", "5", "6", "7", "8"];
+        if number == 7 && line == 0 {
+            self.count(function, "7, line 0");
+        } else {
+            self.count(function, NUMBERS[number]);
+        }
+    }
+
+    pub fn count_clause(&mut self, clause: Clause, refused: bool) {
+        self.clauses[clause as usize][usize::from(refused)] += 1;
+    }
+
+    pub fn print(&self) {
+        println!("| function | answer | times |\n|---|---|---|");
+        for (function, answers) in ANSWERS {
+            for answer in *answers {
+                println!(
+                    "| {function} | {answer} | {} |",
+                    self.answers[&(*function, *answer)]
+                );
+            }
+        }
+        println!("\n| carried whole by | carried | refused with 3 |\n|---|---|---|");
+        for clause in ALL_CLAUSES {
+            let [carried, refused] = self.clauses[clause as usize];
+            println!("| {clause:?} | {carried} | {refused} |");
+        }
+        println!(
+            "\n{} calls, {} tables; {} records tried under tables that were found sound, and all came back",
+            self.calls, self.tables, self.came_back
+        );
+    }
+
+    /// What never came up.
+    pub fn missing(&self) -> Vec<String> {
+        let answers = self
+            .answers
+            .iter()
+            .filter(|(_, times)| **times == 0)
+            .map(|((function, answer), _)| format!("{function}: {answer}"));
+        let clauses = ALL_CLAUSES
+            .iter()
+            .filter(|clause| self.clauses[**clause as usize] == [0, 0])
+            .map(|clause| format!("carried whole by {clause:?}"));
+        answers.chain(clauses).collect()
+    }
+}

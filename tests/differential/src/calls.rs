@@ -1,0 +1,273 @@
+//! Single calls of the two mappings, the check and the shared tail, each held against the rules.
+
+use plain::address;
+use plain::chars::same;
+use plain::mapping::{self, comes_back, is_carrier};
+use plain::record::Record;
+use plain::run::record_of_text;
+use plain::table::Table;
+use plain::text::write_text;
+
+use crate::account::Account;
+use crate::addresses;
+use crate::damage::noise;
+use crate::lent::Lent;
+use crate::library;
+use crate::random::Random;
+use crate::records;
+use crate::round::{hex, Compared, Round};
+use crate::tables::{joined, Sample};
+
+/// A text, or a number and its line.
+type Wanted = Result<Vec<u8>, (usize, usize)>;
+
+/// Room for an answer of this length, at its edge more often than not.
+fn room_about(random: &mut Random, length: usize) -> usize {
+    match random.below(8) {
+        0 => length.saturating_sub(1),
+        1 => length + 1,
+        2 => random.below(length + 1),
+        3 => 0,
+        4 | 5 => length,
+        _ => 2563,
+    }
+}
+
+fn mapped(
+    round: &mut Round,
+    account: &mut Account,
+    function: &'static str,
+    call: library::Mapping,
+    text: &[u8],
+    wanted: Wanted,
+) -> Compared {
+    let room = room_about(&mut round.random, wanted.as_ref().map_or(20, Vec::len));
+    let (number, count, written) = match &wanted {
+        Ok(written) if written.len() <= room => (0, written.len(), &written[..]),
+        Ok(_) => (6, 0, &b""[..]),
+        Err((number, line)) => (*number, *line, &b""[..]),
+    };
+    let mut lent = Lent::new(&mut round.random, room);
+    let found = call(&round.sample.text, text, lent.room());
+    account.calls += 1;
+    account.count_number(function, number, count);
+    if found == number + 16 * count && lent.holds(written) {
+        return Ok(());
+    }
+    Err(format!(
+        "{function}, room {room}: wanted {number} with {count}, found {} with {}; differs: {}\ntable {}\ntext {}",
+        found % 16,
+        found / 16,
+        lent.first_difference(written),
+        hex(&round.sample.text),
+        hex(text)
+    ))
+}
+
+fn settled_by(table: &Table, address: &[u8]) -> &'static str {
+    let domain = &address[address.len() - table.gateway.domain.len().min(address.len())..];
+    match same(domain, &table.gateway.domain) {
+        true => "at the gateway",
+        false => "by a row",
+    }
+}
+
+pub fn to_record(round: &mut Round, account: &mut Account) -> Compared {
+    let text = addresses::address(&mut round.random, &round.sample);
+    let text = round.spoiled(text);
+    let wanted = match &round.table {
+        Err(line) => Err((7, *line)),
+        Ok(table) => {
+            let (result, clause) = mapping::to_record(table, &text);
+            match (&result, clause) {
+                (_, Some(clause)) => account.count_clause(clause, result.is_err()),
+                (Ok(_), None) => account.count("address mapped", settled_by(table, &text)),
+                (Err(_), None) => {}
+            }
+            result
+                .map(|record| write_text(&record, 0))
+                .map_err(|number| (usize::from(number), 0))
+        }
+    };
+    mapped(
+        round,
+        account,
+        "to_record",
+        library::to_record,
+        &text,
+        wanted,
+    )
+}
+
+fn sent_as(table: &Table, record: &Record, address: &[u8]) -> &'static str {
+    match address {
+        _ if is_carrier(table, record) => "as a carrier",
+        [b'/', ..] | [b'"', b'/', ..] => "as record text",
+        _ => "as a name",
+    }
+}
+
+pub fn to_address(round: &mut Round, account: &mut Account) -> Compared {
+    let text = records::record_text(&mut round.random, &round.sample);
+    let text = round.spoiled(text);
+    let wanted = match &round.table {
+        Err(line) => Err((7, *line)),
+        Ok(table) => record_of_text(&text)
+            .ok_or(4u8)
+            .and_then(|record| {
+                let address = mapping::to_address(table, &record, usize::MAX)?;
+                account.count("record sent", sent_as(table, &record, &address));
+                Ok(address)
+            })
+            .map_err(|number| (usize::from(number), 0)),
+    };
+    mapped(
+        round,
+        account,
+        "to_address",
+        library::to_address,
+        &text,
+        wanted,
+    )
+}
+
+/// Whether this is the text of a canonical record, no carrier, that does not come back.
+fn is_witness(table: &Table, text: &[u8]) -> bool {
+    record_of_text(text).is_some_and(|record| {
+        record.is_canonical()
+            && !is_carrier(table, &record)
+            && !comes_back(table, &record)
+            && write_text(&record, 0) == text
+    })
+}
+
+/// Some records near the rows of a table that was found sound must come back.
+fn all_come_back(
+    random: &mut Random,
+    sample: &Sample,
+    table: &Table,
+    account: &mut Account,
+) -> Compared {
+    for _ in 0..if sample.rows.len() <= 40 { 40 } else { 4 } {
+        let record = records::record(random, sample);
+        if !record.is_canonical() || is_carrier(table, &record) {
+            continue;
+        }
+        if !comes_back(table, &record) {
+            let text = write_text(&record, 0);
+            return Err(format!(
+                "check: 0, but this does not come back: {}",
+                hex(&text)
+            ));
+        }
+        account.came_back += 1;
+    }
+    Ok(())
+}
+
+pub fn check(round: &mut Round, account: &mut Account) -> Compared {
+    let room = *round.random.pick(&[0, 1, 18, 26, 40, 2563, 2563, 2563]);
+    let mut lent = Lent::new(&mut round.random, room);
+    let text = &round.sample.text;
+    let found = library::check(text, lent.room());
+    account.calls += 1;
+    let (number, count) = (found % 16, found / 16);
+    let failed = |why: &str| {
+        Err(format!(
+            "check, room {room}: found {number} with {count}: {why}\ntable {}",
+            hex(text)
+        ))
+    };
+    let table = match &round.table {
+        Err(line) => {
+            account.count_number("check", 7, *line);
+            if found != 7 + 16 * line || !lent.holds(b"") {
+                return failed(&format!("wanted 7 with {line} and the buffer as before"));
+            }
+            return Ok(());
+        }
+        Ok(table) => table,
+    };
+    match number {
+        0 if count != 0 || !lent.holds(b"") => failed("wanted no count and the buffer as before"),
+        0 => {
+            account.count("check", "0");
+            all_come_back(&mut round.random, &round.sample, table, account)
+                .or_else(|why| failed(&why))
+        }
+        8 if count <= room => {
+            account.count("check", "8");
+            let witness = lent.front(count).to_vec();
+            if !lent.holds(&witness) {
+                return failed("wanted the buffer behind the text as before");
+            }
+            if !is_witness(table, &witness) {
+                return failed(&format!("this is no witness: {}", hex(&witness)));
+            }
+            Ok(())
+        }
+        8 => {
+            account.count("check", "8, no room");
+            if !lent.holds(b"") {
+                return failed("wanted the buffer as before, since the text does not fit");
+            }
+            let mut lent = Lent::new(&mut round.random, count);
+            let again = library::check(text, lent.room());
+            account.calls += 1;
+            if again != found || !is_witness(table, lent.front(count)) {
+                return failed("with just the room that it asked for, no witness");
+            }
+            Ok(())
+        }
+        _ => failed("no number that a check can give for a table that is well-formed"),
+    }
+}
+
+fn dotted(random: &mut Random, sample: &Sample) -> Vec<u8> {
+    let mut text = Vec::new();
+    for _ in 0..random.below(6) {
+        let label = if random.one_in(6) {
+            Vec::new()
+        } else {
+            sample.label(random)
+        };
+        text = [&label[..], b".", &text].concat();
+    }
+    text.truncate(text.len().saturating_sub(usize::from(!random.one_in(4))));
+    text
+}
+
+pub fn shared_tail(round: &mut Round, account: &mut Account) -> Compared {
+    let tail = dotted(&mut round.random, &round.sample);
+    let mut one = || {
+        let front = match round.random.below(6) {
+            0 => return noise(&mut round.random, 60),
+            1 => return dotted(&mut round.random, &round.sample),
+            2 => return round.random.cased(&tail),
+            _ => dotted(&mut round.random, &round.sample),
+        };
+        let text = joined(&front, &tail);
+        round.random.cased(&text)
+    };
+    let (first, second) = (one(), one());
+    let (first, second) = (round.spoiled(first), round.spoiled(second));
+    let wanted = address::shared_tail(&first, &second).len();
+    let found = library::shared_tail(&first, &second);
+    account.calls += 1;
+    account.count(
+        "shared_tail",
+        match wanted {
+            0 => "nothing",
+            _ if wanted == first.len() => "all",
+            _ => "a part",
+        },
+    );
+    if found == wanted {
+        return Ok(());
+    }
+    Err(format!(
+        "shared_tail: wanted {wanted}, found {found}\nfirst {}\nsecond {}",
+        hex(&first),
+        hex(&second)
+    ))
+}

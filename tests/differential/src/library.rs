@@ -1,0 +1,112 @@
+//! The exports of the compiled library, as functions of slices. docs/include/gateway.h says what they do.
+
+mod exports {
+    extern "C" {
+        pub fn gateway_to_record(
+            table: *const u8,
+            table_len: usize,
+            address: *const u8,
+            address_len: usize,
+            out: *mut u8,
+            out_len: usize,
+        ) -> usize;
+        pub fn gateway_to_address(
+            table: *const u8,
+            table_len: usize,
+            record_text: *const u8,
+            record_text_len: usize,
+            out: *mut u8,
+            out_len: usize,
+        ) -> usize;
+        pub fn gateway_check(
+            table: *const u8,
+            table_len: usize,
+            out: *mut u8,
+            out_len: usize,
+        ) -> usize;
+        pub fn gateway_shared_tail(
+            first: *const u8,
+            first_len: usize,
+            second: *const u8,
+            second_len: usize,
+        ) -> usize;
+        pub fn gateway_route(
+            table: *const u8,
+            table_len: usize,
+            over: bool,
+            input: *const u8,
+            input_len: usize,
+            last: bool,
+            out: *mut u8,
+            out_len: usize,
+            taken: *mut usize,
+            written: *mut usize,
+        ) -> bool;
+    }
+}
+
+/// A mapping: under a table, of a text, into a buffer.
+pub type Mapping = fn(&[u8], &[u8], &mut [u8]) -> usize;
+
+pub fn to_record(table: &[u8], text: &[u8], out: &mut [u8]) -> usize {
+    unsafe {
+        exports::gateway_to_record(
+            table.as_ptr(),
+            table.len(),
+            text.as_ptr(),
+            text.len(),
+            out.as_mut_ptr(),
+            out.len(),
+        )
+    }
+}
+
+pub fn to_address(table: &[u8], text: &[u8], out: &mut [u8]) -> usize {
+    unsafe {
+        exports::gateway_to_address(
+            table.as_ptr(),
+            table.len(),
+            text.as_ptr(),
+            text.len(),
+            out.as_mut_ptr(),
+            out.len(),
+        )
+    }
+}
+
+pub fn check(table: &[u8], out: &mut [u8]) -> usize {
+    unsafe { exports::gateway_check(table.as_ptr(), table.len(), out.as_mut_ptr(), out.len()) }
+}
+
+pub fn shared_tail(first: &[u8], second: &[u8]) -> usize {
+    unsafe {
+        exports::gateway_shared_tail(first.as_ptr(), first.len(), second.as_ptr(), second.len())
+    }
+}
+
+/// How far a call came: the state, what it took and what it wrote.
+pub fn route(
+    table: &[u8],
+    over: bool,
+    input: &[u8],
+    last: bool,
+    out: &mut [u8],
+) -> (bool, usize, usize) {
+    // Values that no call can leave, so that one that is not stored is seen.
+    let (mut taken, mut written) = (usize::MAX, usize::MAX);
+    let over = unsafe {
+        exports::gateway_route(
+            table.as_ptr(),
+            table.len(),
+            over,
+            input.as_ptr(),
+            input.len(),
+            last,
+            out.as_mut_ptr(),
+            out.len(),
+            &mut taken,
+            &mut written,
+        )
+    };
+    (over, taken, written)
+}
