@@ -29,7 +29,7 @@ static const char *in_words(unsigned number)
     case GATEWAY_LONG_ADDRESS:
         return "it is over 2,048 bytes";
     case GATEWAY_LONG_CARRIED:
-        return "no row maps it, and it is too long to be carried";
+        return "it would have to be carried whole, and is too long for that";
     case GATEWAY_NO_RECORD:
         return "it is not the text of a record";
     case GATEWAY_BAD_CARRIED:
@@ -218,7 +218,7 @@ static int check(const char *name)
     answer = gateway_check(table, length, room, sizeof room);
     switch (GATEWAY_NUMBER(answer)) {
     case GATEWAY_DONE:
-        printf("%s: sound: every record comes back as it was sent\n", name);
+        printf("%s: sound: every record that carries no address itself comes back the same\n", name);
         return 0;
     case GATEWAY_BAD_TABLE:
         say_malformed(name, table, length, GATEWAY_COUNT(answer));

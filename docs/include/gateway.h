@@ -25,7 +25,7 @@
  *   written either.
  * - No pointer is NULL, not even where its length is 0: hand over the address of any byte then.
  * - `out`, `taken` and `written` do not overlap each other or any other argument. The texts that are only read may overlap.
- * - Bytes of `out` behind the text that is written stay as they were. Where a function refuses, all of `out` stays as it was.
+ * - Bytes of `out` behind the text that is written stay as they were. On every number but 0 and 8 all of `out` stays as it was.
  * - Nothing is kept between calls, there is no global state and no memory is allocated, so any number of threads may call any of
  *   these at once, each with its own `out`. A thread with 256 kilobytes of stack has room for any call.
  * - The table is read afresh by each call. For many lines under one table, gateway_route reads it once a call.
@@ -54,7 +54,7 @@ extern "C" {
 #define GATEWAY_DONE 0          /* done; the length of the text at the front of `out` (0 from the check) */
 #define GATEWAY_NO_ADDRESS 1    /* the address is not of the form local-part@domain; 0 */
 #define GATEWAY_LONG_ADDRESS 2  /* the address is over 2,048 bytes; 0 */
-#define GATEWAY_LONG_CARRIED 3  /* no row fits, and the coded address is over the 128 characters that a record carries; 0 */
+#define GATEWAY_LONG_CARRIED 3  /* it has to be carried whole, and its coded form is over the 128 characters of a record; 0 */
 #define GATEWAY_NO_RECORD 4     /* the text is no record text, or its record breaks a rule of X.400's; 0 */
 #define GATEWAY_BAD_CARRIED 5   /* the record carries an RFC 822 address, and its value does not decode to one; 0 */
 #define GATEWAY_SHORT_ROOM 6    /* `out` is shorter than the text; 0 */

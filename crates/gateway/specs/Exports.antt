@@ -20,7 +20,7 @@ use Rattle.mapping.specs.ToAddress.{toAddress}
 use Rattle.mapping.specs.ToRecord.{addressToRecord}
 use Rattle.soundness.specs.Sound.{Sound, Witness}
 
--- "number + 16 * n, where n is the length written on 0 .., the line on 7, and 0 otherwise"
+-- the number, and 16 times the length that was written, or with 7 the line
 unfoldable pub packed : AddressResult → ℕ
 packed o = o .number + 16 * cond (eqb (o .number) 7) (o .line) (o .size)
 

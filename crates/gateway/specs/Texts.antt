@@ -12,7 +12,7 @@ use Rattle.ortext.specs.Keys.{keys}
 use Rattle.ortext.specs.Write.{recordText}
 use Rattle.mapping.specs.Results.{AddressResult, placed, refusedAddress}
 
--- 4, "the record is not canonical, or an addition is not allowed": an empty record
+-- 4, "the record (or record text) is not canonical": an empty record
 abbrev pub noRecord : Outcome
 noRecord = record { number = 4; record' = emptyRecord }
 

@@ -21,7 +21,7 @@ use Rattle.mapping.specs.ToRecord.{toRecordBy}
 abbrev pub longestLine : ℕ
 longestLine = 4096
 
--- The longest line of output: a number, a tab, a text and an LF.
+-- Room for any line of output: a number, a tab, a text and an LF.
 abbrev pub answerRoom : ℕ
 answerRoom = 2563
 
