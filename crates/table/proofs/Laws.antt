@@ -9,4 +9,5 @@ pub mod Paths
 pub mod Rows
 pub mod Settle
 pub mod Settled
+pub mod Tags
 pub mod Tails

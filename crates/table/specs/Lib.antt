@@ -10,3 +10,4 @@ pub mod Marks
 pub mod Rows
 pub mod Settle
 pub mod Table
+pub mod Tags

@@ -7,3 +7,4 @@ pub mod lookup;
 pub mod mark;
 pub mod rows;
 pub mod settle;
+pub mod tag;

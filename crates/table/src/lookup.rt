@@ -2,7 +2,11 @@
 // that begins a record's levels. Of rows with one key the last is found, as the definition has it.
 use crate::level::LevelKind;
 use crate::level::level_at;
+use crate::mark::has_mark;
 use crate::rows::row_at;
+use crate::tag::LEVELS;
+use crate::tag::fill_tags;
+use crate::tag::tag_of;
 use chars::case::same_text;
 ghost use mathlib.Core.Path.{_≡_};
 ghost use mathlib.Core.Bool.{_&&_, cond};
@@ -15,6 +19,7 @@ ghost use Rattle.table.specs.Levels.{levelToken};
 ghost use Rattle.table.specs.Lookup.{begins, byDomain, byPath};
 ghost use Rattle.table.specs.Looked.{Ended, KindInside, Looked, isReached, tokensFrom, tokensOf};
 ghost use Rattle.table.specs.Rows.{Inside, between, fieldsAt};
+ghost use Rattle.table.specs.Tags.{Tagged};
 
 pub enum Found {
     At(usize),
@@ -129,17 +134,40 @@ pub fn match_path(
     match_path(text, level.next, end, levels, ends, k + 1, left - 1)
 }
 
+// The same for a path against all the record's levels, with the tags of the paths that the first of them make: a path that has none of
+// these tags begins no levels, and most rows are passed over by that alone.
+fn match_tagged(
+    text: &[u8],
+    at: usize,
+    end: usize,
+    levels: &[u8],
+    ends: &[usize],
+    tags: &[usize],
+) -> usize
+    requires { ⌜ (at ≤ end) × (end ≤ length (now text)) ⌝ }
+    requires { ⌜ Ended (now levels) (now ends) 8 × Tagged (now levels) (now ends) (now tags) ⌝ }
+    ensures { λ r. ⌜ r ≡ cond (begins (fieldsAt (now (text .entry)) at end) (tokensFrom (now (levels .entry)) (now (ends .entry)) 0 8)) (0 + length (fieldsAt (now (text .entry)) at end)) 0 ⌝ }
+{
+    let tag = tag_of(&text[at..end]);
+    if !has_mark(tags, tag) {
+        return 0;
+    }
+    match_path(text, at, end, levels, ends, 0, LEVELS)
+}
+
 // The row of the first n whose path is the longest that begins a record's levels.
 pub fn find_path(text: &[u8], rows: &[usize], n: usize, levels: &[u8], ends: &[usize]) -> Found
     requires { ⌜ Inside (now text) (now rows) n × Ended (now levels) (now ends) 8 ⌝ }
     ensures { λ r. ⌜ Looked byPath (now (text .entry)) (now (rows .entry)) n (tokensOf (now (levels .entry)) (now (ends .entry))) r ⌝ }
 {
+    let mut tags = [0usize; LEVELS];
+    fill_tags(&mut tags, levels, ends);
     let mut found = Found::Nowhere;
     let mut longest = 1;
     let mut i = 0;
     while i < n {
         let row = row_at(rows, i);
-        let k = match_path(text, row.path, row.path_end, levels, ends, 0, 8);
+        let k = match_tagged(text, row.path, row.path_end, levels, ends, &tags);
         if longest <= k {
             found = Found::At(i);
             longest = k;

@@ -47,7 +47,8 @@ fold-agree (p ∷ ps) (q ∷ qs) h =
     (same-path p q (and-left (sameText p q) (agree sameText ps qs) h))
     (fold-agree ps qs (and-right (sameText p q) (agree sameText ps qs) h))
 
-tab-other : isLetter 9 ≡ false
+-- a tab is no letter
+pub tab-other : isLetter 9 ≡ false
 unfolding isLetter inRange
 tab-other = refl
 

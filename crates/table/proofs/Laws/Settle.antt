@@ -38,7 +38,7 @@ use Rattle.table.proofs.Laws.Tails.{fold-parts, parts-append, tail-plac
 
 -- ---- extending a row's domain
 
-tokens-length : (s ends : List ℕ) (k n : ℕ) → length (tokensFrom s ends k n) ≡ n
+pub tokens-length : (s ends : List ℕ) (k n : ℕ) → length (tokensFrom s ends k n) ≡ n
 unfolding tokensFrom
 tokens-length s ends k zero = refl
 tokens-length s ends k (suc n) = ap suc (tokens-length s ends (suc k) n)

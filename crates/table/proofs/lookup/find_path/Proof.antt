@@ -7,6 +7,7 @@ use mathlib.Core.List.{List}
 use Prim.Native.Nat.{ℕ, _+_, _-_, _≤_, _<_}
 use native.Mathlib.Nat.{zero-add}
 use native.Mathlib.Omega.{arith}
+use borrow.Author.Needs.{needs}
 use borrow.Author.Tests.{le-leb, lt-leb}
 use lib.Dec.{leb}
 use lib.ListN.{length}
@@ -21,28 +22,38 @@ use Rattle.table.proofs.lookup.find_path.Statement.{statement}
 use Rattle.table.proofs.lookup.find_path.Tie as tie
 
 abbrev Inv-loop : tie.InvT-loop
-Inv-loop text rows n levels ends found₀ longest₀ i₀ found longest i =
+Inv-loop text rows n levels ends tags found₀ longest₀ i₀ found longest i =
     (i ≤ n) × Looked byPath text rows i (tokensOf levels ends) found × (longest ≡ levelsAt text rows found)
 
 abbrev μ-loop : tie.MeasureT-loop
-μ-loop text rows n levels ends found₀ longest₀ i₀ found longest i = n - i
+μ-loop text rows n levels ends tags found₀ longest₀ i₀ found longest i = n - i
+
+slice-aggregate-fill-tags : tie.Need-slice-aggregate-fill-tags Inv-loop μ-loop
+slice-aggregate-fill-tags c = search needs
+
+fill-tags-requires : tie.Need-fill-tags-requires Inv-loop μ-loop
+fill-tags-requires c κs = search needs
 
 loop-holds : tie.Need-loop-holds Inv-loop μ-loop
 unfolding levelsAt
 loop-holds c =
-    let args = c .before .before .before .before .args in
+    let args = c .before .before .before .before .before .before .before .args in
     (omega arith, looked-none byPath (args .text .now) (args .rows .now) (tokensOf (args .levels .now) (args .ends .now)), refl)
 
 row-at-requires : tie.Need-row-at-requires Inv-loop μ-loop
 row-at-requires c κs = omega arith
 
-match-path-requires : tie.Need-match-path-requires Inv-loop μ-loop
-match-path-requires c κs =
-    let i = c .before .before .loop .i in
-    let start = c .before .before .before .before .before .before .before in
+slice-aggregate-match-tagged : tie.Need-slice-aggregate-match-tagged Inv-loop μ-loop
+slice-aggregate-match-tagged c = search needs
+
+match-tagged-requires : tie.Need-match-tagged-requires Inv-loop μ-loop
+match-tagged-requires c κs =
+    let at = c .before .before .before in
+    let i = at .loop .i in
+    let start = at .before .before .before .before .before .before .before .before in
     let l : i < start .args .n = omega arith in
-    let row : RowInside (start .args .text .now) (c .row-at .result) = rw (c .row-at .ensures) (start .pre .0 .each i l) in
-    (row .within, start .pre .1)
+    let row : RowInside (start .args .text .now) (c .before .row-at .result) = rw (c .before .row-at .ensures) (start .pre .0 .each i l) in
+    ((row .path, row .within), (start .pre .1, at .before .before .fill-tags .ensures))
 
 add-i : tie.Need-add-i Inv-loop μ-loop
 add-i c = omega arith
@@ -51,38 +62,38 @@ loop-less : tie.Need-loop-less Inv-loop μ-loop
 loop-less c = omega arith
 
 -- what a path came to, by the definition's row
-came : (c : tie.After-match-path Inv-loop μ-loop) →
-    let at = c .before .before .before in
-    let a = at .before .before .before .before .before .args in
+came : (c : tie.After-match-tagged Inv-loop μ-loop) →
+    let at = c .before .before .before .before in
+    let a = at .before .before .before .before .before .before .before .before .args in
     let fs : List Token = byPath (rowAt (a .text .now) (placesAt (a .rows .now) (at .loop .i))) in
-    c .match-path .result ≡ cond (begins fs (tokensOf (a .levels .now) (a .ends .now))) (0 + length fs) 0
+    c .match-tagged .result ≡ cond (begins fs (tokensOf (a .levels .now) (a .ends .now))) (0 + length fs) 0
 unfolding rowAt tokensOf
-came c = rw (c .before .row-at .ensures) at (c .match-path .ensures)
+came c = rw (c .before .before .row-at .ensures) at (c .match-tagged .ensures)
 
 -- the test of a row is the definition's
-test : (c : tie.After-match-path Inv-loop μ-loop) →
-    let at = c .before .before .before in
-    let a = at .before .before .before .before .before .args in
-    leb (at .loop .longest) (c .match-path .result)
+test : (c : tie.After-match-tagged Inv-loop μ-loop) →
+    let at = c .before .before .before .before in
+    let a = at .before .before .before .before .before .before .before .before .args in
+    leb (at .loop .longest) (c .match-tagged .result)
     ≡ (begins (byPath (rowAt (a .text .now) (placesAt (a .rows .now) (at .loop .i)))) (tokensOf (a .levels .now) (a .ends .now)) && noLonger byPath (a .text .now) (a .rows .now) (at .loop .found) (at .loop .i))
 test c =
-    let at = c .before .before .before in
-    let start = at .before .before .before .before .before in
+    let at = c .before .before .before .before in
+    let start = at .before .before .before .before .before .before .before .before in
     let a = start .args in
     path-test (a .text .now) (a .rows .now) (tokensOf (a .levels .now) (a .ends .now)) (a .n) (at .loop .i) (start .pre .0) (omega arith) (at .loop .found) (at .loop .inv .1)
-    (at .loop .longest) (c .match-path .result) (at .loop .inv .2) (came c)
+    (at .loop .longest) (c .match-tagged .result) (at .loop .inv .2) (came c)
 
 loop-again : tie.Need-loop-again Inv-loop μ-loop
 unfolding levelsAt
 loop-again c =
-    let at = c .before .before .before .before in
-    let a = at .before .before .before .before .before .args in
+    let at = c .before .before .before .before .before in
+    let a = at .before .before .before .before .before .before .before .before .args in
     let s : List ℕ = a .text .now in
     let ns : List ℕ = a .rows .now in
     let q : List Token = tokensOf (a .levels .now) (a .ends .now) in
     let i = at .loop .i in
     let fs : List Token = byPath (rowAt s (placesAt ns i)) in
-    let k = c .before .match-path .result in
+    let k = c .before .match-tagged .result in
     ⊎-elim
     (λ w. let g = sym (test (c .before)) ∙ le-leb (at .loop .longest) k (w .0 .taken) in
     let z : cond (begins fs q) (0 + length fs) 0 ≡ length fs = rw (and-left (begins fs q) (noLonger byPath s ns (at .loop .found) i) g) (zero-add (length fs)) in (
@@ -99,7 +110,7 @@ loop-again c =
 
 returns : tie.Need-returns Inv-loop μ-loop
 returns c =
-    let e : c .before .before .before .before .before .before .args .n ≡ c .before .loop .i = omega arith in
+    let e : c .before .before .before .before .before .before .before .before .before .args .n ≡ c .before .loop .i = omega arith in
     rw e (c .before .loop .inv .1)
 
 pub find-path-spec : {M : Type 1} → statement M
@@ -108,9 +119,12 @@ find-path-spec =
     (tie.spec
     Inv-loop
     μ-loop
+    slice-aggregate-fill-tags
+    fill-tags-requires
     loop-holds
     row-at-requires
-    match-path-requires
+    slice-aggregate-match-tagged
+    match-tagged-requires
     add-i
     loop-less
     loop-again
