@@ -1,6 +1,6 @@
 #!/usr/bin/env python3
-"""Holds the unproved Rust program of docs/src/ against every case of tests/vectors/: the runs, the single calls, and the checks' first
-bad lines and witnesses. Needs cargo. Run it from the repository's root; its last line counts what agrees, and it fails on the first
+"""Holds the unproved Rust program of docs/src/ against every case of tests/vectors/: the runs, the single calls, the checks' first
+bad lines and witnesses, and the dates. Needs cargo. Run it from the repository's root; its last line counts what agrees, and it fails on the first
 kind that does not."""
 import base64
 import glob
@@ -63,6 +63,13 @@ def check_case(case):
     return f"load\t{table}", f"7\t{case['line']}" if case["number"] == 7 else "0"
 
 
+def date_case(line):
+    """The call of one line of dates.tsv, and its answer."""
+    form, text, number, other = line.rstrip("\n").split("\t")
+    call = {"U": "u2d", "R": "d2u"}[form]
+    return f"{call}\t{text.encode().hex()}", f"0\t{other.encode().hex()}" if number == "0" else number
+
+
 def calls(kind, cases):
     out = subprocess.run([BUILT + "plain-answers"], input="".join(call + "\n" for call, _ in cases), capture_output=True, text=True, check=True)
     answers = out.stdout.split("\n")[:-1]
@@ -91,7 +98,9 @@ def main():
         maps = calls("maps", [map_case(json.loads(line)) for line in lines])
     with open("tests/vectors/checks.jsonl", encoding="ascii") as lines:
         checks = calls("checks", [check_case(json.loads(line)) for line in lines])
-    print(f"{runs()} runs, {maps} calls and {checks} checks agree")
+    with open("tests/vectors/dates.tsv", encoding="ascii", newline="\n") as lines:
+        dates = calls("dates", [date_case(line) for line in lines])
+    print(f"{runs()} runs, {maps} calls, {checks} checks and {dates} dates agree")
 
 
 if __name__ == "__main__":

@@ -1,5 +1,6 @@
 /*
- * gateway.h: mail addresses between RFC 822 and X.400 under a table, for C programs on x86-64 (System V calling convention).
+ * gateway.h: mail addresses between RFC 822 and X.400 under a table, and dates, for C programs on x86-64 (System V calling
+ * convention).
  * Link target/staticlib/libgateway.a, which `rt staticlib gateway` makes; beside it only the C library is needed.
  *
  * A table is a text of lines that end in LF, fields parted by single tabs:
@@ -42,7 +43,7 @@ extern "C" {
 #endif
 
 /*
- * gateway_to_record, gateway_to_address and gateway_check return a number with a count above it:
+ * gateway_to_record, gateway_to_address, gateway_check and the two functions for dates return a number with a count above it:
  *
  *     size_t answer = gateway_to_record(...);
  *     switch (GATEWAY_NUMBER(answer)) ...
@@ -60,9 +61,13 @@ extern "C" {
 #define GATEWAY_SHORT_ROOM 6    /* `out` is shorter than the text; 0 */
 #define GATEWAY_BAD_TABLE 7     /* the table is malformed; its first bad line, from 1, or 0 where it is over 65,536 bytes */
 #define GATEWAY_UNSOUND_TABLE 8 /* from the check alone: the table is unsound; the length of the witness's text */
+#define GATEWAY_NO_DATE 10      /* from the dates alone: the text is malformed, or the date impossible; 0 */
 
 /* Room for any answer: no text that a function writes at once, with the number, tab and LF of gateway_route, is longer. */
 #define GATEWAY_ANSWER_ROOM 2563
+
+/* Room for any date, in either form. */
+#define GATEWAY_DATE_ROOM 24
 
 /*
  * Address to record: writes the record's text. An address that no rule of the table maps is carried whole, as a record at the
@@ -122,6 +127,42 @@ size_t gateway_shared_tail(const uint8_t *first, size_t first_len, const uint8_t
  */
 bool gateway_route(const uint8_t *table, size_t table_len, bool over, const uint8_t *input, size_t input_len, bool last,
                    uint8_t *out, size_t out_len, size_t *taken, size_t *written);
+
+/*
+ * Dates, between X.400's UTCTime and RFC 822's date-time. No table has a part in this. What is read, letter case aside, and
+ * what is written:
+ *
+ *                read                                            written
+ *     UTCTime    YYMMDDhhmm[ss]zone                              261115102030-0330           at most 17 bytes
+ *                zone: Z, or + or - and hhmm
+ *     date-time  [Sun, ]D Nov YY hh:mm[:ss] zone                 15 Nov 26 10:20:30 -0330    at most 24 bytes
+ *                zone: GMT, UT, or + or - and hhmm
+ *
+ * - Each number has two digits; the day of a date-time may have one, and is written with two. Between the parts of a date-time
+ *   there is exactly one space, and before and behind either form there is nothing.
+ * - Months are Jan to Dec. A day name is one of Mon Tue Wed Thu Fri Sat Sun, and has a comma. It is not held against the date,
+ *   and none is written.
+ * - Years are 00 to 99, and nothing is said of their century: 29 February is taken where the two digits are divisible by four.
+ *   Hours, those of an offset too, are 00 to 23, minutes and seconds 00 to 59; there is no leap second.
+ * - Seconds are written if they were there, and else not.
+ * - The time is not moved: the offset is written as it was read, +0530 as +0530. Z, GMT, UT and -0000 are written +0000.
+ * - Other zones by name (EST, a military letter), years of four digits and comments are refused with 10.
+ *
+ * A text that one function wrote goes through the other and back to the same bytes.
+ *
+ *     uint8_t out[GATEWAY_DATE_ROOM];
+ *     size_t answer = gateway_date_to_822(utc, utc_len, out, sizeof out);
+ *     if (GATEWAY_NUMBER(answer) == GATEWAY_DONE)
+ *         fwrite(out, 1, GATEWAY_COUNT(answer), stdout);
+ *
+ * Numbers, the first that holds: 10, 6; else 0.
+ */
+
+/* UTCTime to date-time: 2611151020Z is 15 Nov 26 10:20 +0000. */
+size_t gateway_date_to_822(const uint8_t *utc, size_t utc_len, uint8_t *out, size_t out_len);
+
+/* Date-time to UTCTime: Sun, 5 nov 26 10:20:30 -0330 is 261105102030-0330. */
+size_t gateway_date_to_x400(const uint8_t *date, size_t date_len, uint8_t *out, size_t out_len);
 
 #ifdef __cplusplus
 }

@@ -1,5 +1,6 @@
 //! Answers single calls, one a line, fields parted by tabs and byte strings in hexadecimal:
 //! - `load table`, `a2r table address`, `r2a table room record`: the number, and the line (7) or the text (0; a record's text)
+//! - `u2d text`, `d2u text`: the number, and the text (0): a UTCTime's date-time, a date-time's UTCTime
 //! - `tail first second`: the tail
 //! - `witness table record-text`: 1 for a record that is canonical, no carrier and does not come back, else 0
 //!
@@ -9,6 +10,7 @@
 use std::io::{self, BufRead, Write};
 
 use plain::address::shared_tail;
+use plain::dates::{to_822, to_x400};
 use plain::mapping::{comes_back, is_carrier, to_address, to_record};
 use plain::record::Record;
 use plain::run::record_of_text;
@@ -56,6 +58,8 @@ fn answer(fields: &[&str]) -> String {
     };
     match (fields[0], table) {
         ("tail", _) => hex(shared_tail(&bytes(fields[1]), &bytes(fields[2]))),
+        ("u2d", _) => done(to_822(&bytes(fields[1]))),
+        ("d2u", _) => done(to_x400(&bytes(fields[1]))),
         (_, Err(line)) => format!("7\t{line}"),
         ("a2r", Ok(table)) => done(
             to_record(&table, &bytes(fields[2]))

@@ -1,7 +1,7 @@
 -- Every statement of `specs/Promises.antt` is so.
 -- Assumes nothing.
 use mathlib.Core.Path.{_≡_, refl, sym, ap, subst, _∙_}
-use mathlib.Core.Logic.{inl, inr}
+use mathlib.Core.Logic.{_⊎_, inl, inr}
 use mathlib.Core.Bool.{true, false}
 use mathlib.Core.List.{List, [], _∷_}
 use mathlib.Core.Option.{Option, none, some}
@@ -34,10 +34,17 @@ use Rattle.mapping.proofs.Laws.CarriedBack.{carried-back-text}
 use Rattle.mapping.proofs.Laws.Whole.{returned-canonical}
 use Rattle.soundness.specs.Check.{CheckResult, Demand3}
 use Rattle.soundness.specs.Sound.{Sound}
+use Rattle.dates.specs.Convert as date
+use Rattle.dates.specs.Convert.{dateToUtc, utcToDate}
+use Rattle.dates.specs.Read.{readDate, readUtc}
+use Rattle.dates.specs.Write.{dateText, utcText}
+use Rattle.dates.specs.declared.date.DateTime.{DateTime}
+use Rattle.dates.proofs.Laws.Back.{date-back, utc-back}
+use Rattle.dates.proofs.Laws.Convert.{date-date, utc-date}
 use Rattle.router.proofs.Laws.Calls.{call-moves, calls-whole}
 use Rattle.router.proofs.Laws.Line.{loaded-rules}
 use Rattle.gateway.specs.Exports.{addressToText, readingToAddress, textResult, textToAddress, textToAddressBy}
-use Rattle.gateway.specs.Promises.{Accepted, AddressRules, Demand1, Demand2, Demand3Exactly, EndsBuffer, EndsRecord, Judgement, Promises, RecordRules, Router}
+use Rattle.gateway.specs.Promises.{Accepted, AddressRules, DateLeft, DateWritten, Dates, Demand1, Demand2, Demand3Exactly, EndsBuffer, EndsRecord, Judgement, Promises, RecordRules, Router}
 use Rattle.gateway.specs.Texts.{readOutcome, recordOfText, textOfRecord}
 use Rattle.gateway.proofs.Laws.Exports.{not-canonical}
 
@@ -341,7 +348,34 @@ router =
       moves = λ table s old new over last r c k z. call-moves (loaded-rules table) c k z;
     }
 
+-- ---- dates
+
+module _ (old : List ℕ) where
+  date-left : (n : ℕ) → member n (10 ∷ 6 ∷ []) ≡ true → DateWritten old (date.refused n old) ⊎ DateLeft old (date.refused n old)
+  unfolding date.refused
+  date-left n h = inr (record { number = h; size = refl; buffer = refl })
+
+  date-ends : (text : DateTime → List ℕ) (o : Option DateTime) → DateWritten old (date.converted text o old) ⊎ DateLeft old (date.converted text o old)
+  unfolding date.converted date.placed member
+  date-ends text none = date-left 10 refl
+  date-ends text (some d) =
+      by-test (ltb (length old) (length (text d)))
+      (λ e. rw e (date-left 6 refl))
+      (λ e. rw e (inl (record { done = refl; fits = ltb-false (length old) (length (text d)) e; rest = drop-front (text d) old })))
+
+pub dates : Dates
+unfolding utcToDate dateToUtc
+dates =
+    record {
+      to-822 = λ s old. date-ends old dateText (readUtc s);
+      to-x400 = λ s old. date-ends old utcText (readDate s);
+      utc-back = utc-back;
+      date-back = date-back;
+      utc-is = utc-date;
+      date-is = date-date;
+    }
+
 -- ---- all of it
 
 pub promises : Promises
-promises = record { demand1 = demand1; demand2 = demand2; demand3 = demand3; router = router }
+promises = record { demand1 = demand1; demand2 = demand2; demand3 = demand3; router = router; dates = dates }

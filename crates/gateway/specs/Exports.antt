@@ -19,6 +19,7 @@ use Rattle.mapping.specs.Results.{AddressResult, RecordResult, malformedAddress
 use Rattle.mapping.specs.ToAddress.{toAddress}
 use Rattle.mapping.specs.ToRecord.{addressToRecord}
 use Rattle.soundness.specs.Sound.{Sound, Witness}
+use Rattle.dates.specs.Convert.{DateResult}
 
 -- the number, and 16 times the length that was written, or with 7 the line
 unfoldable pub packed : AddressResult → ℕ
@@ -91,3 +92,13 @@ pub record TellsMalformed (n : ℕ) (old : List ℕ) (r : ℕ) (new : List ℕ) 
 abbrev pub ExportedCheck : Loaded → List ℕ → ℕ → List ℕ → Type 0
 ExportedCheck (malformed n) old r new = TellsMalformed n old r new
 ExportedCheck (wellFormed t) old r new = TellsSound t old r new ⊎ TellsWitness t old r new
+
+-- ---- dates
+
+-- the number, and 16 times the length that was written
+unfoldable pub packedDate : DateResult → ℕ
+packedDate o = o .number + 16 * o .size
+
+pub record ExportedDate (o : DateResult) (r : ℕ) (new : List ℕ) : Type 0 where
+  pub value : r ≡ packedDate o
+  pub buffer : new ≡ o .buffer

@@ -25,6 +25,11 @@ use Rattle.mapping.specs.ToAddress.{addressOf, recordToAddress}
 use Rattle.mapping.specs.ToRecord.{addressToRecord, recordIn}
 use Rattle.soundness.specs.Check.{CheckResult, Demand3}
 use Rattle.soundness.specs.Sound.{Sound, Witness}
+use Rattle.dates.specs.Convert.{DateResult, dateToUtc, utcToDate}
+use Rattle.dates.specs.Date.{isDate}
+use Rattle.dates.specs.Read.{readDate, readUtc}
+use Rattle.dates.specs.Write.{dateText, utcText}
+use Rattle.dates.specs.declared.date.DateTime.{DateTime}
 use Rattle.router.specs.Line.{answerRoom}
 use Rattle.router.specs.Run.{Calls, Routing, Waits, whole}
 use Rattle.router.specs.declared.run.Routed.{Routed}
@@ -127,6 +132,26 @@ pub record Router : Type 0 where
   pub moves : (table s old new : List ℕ) (over last : Bool) (r : Routed) → Routing (loadedFrom table) over s last old r new
       → answerRoom ≤ length old → r .taken ≡ 0 → Waits last s
 
+-- ---- dates: "Going out to either form and back gives the same date, time and offset. Refusals: 10 .. then 6"
+
+pub record DateLeft (old : List ℕ) (o : DateResult) : Type 0 where
+  pub number : member (o .number) (10 ∷ 6 ∷ []) ≡ true
+  pub size : o .size ≡ 0
+  pub buffer : o .buffer ≡ old
+
+pub record DateWritten (old : List ℕ) (o : DateResult) : Type 0 where
+  pub done : o .number ≡ 0
+  pub fits : o .size ≤ length old
+  pub rest : drop (o .size) (o .buffer) ≡ drop (o .size) old
+
+pub record Dates : Type 0 where
+  pub to-822 : (s old : List ℕ) → DateWritten old (utcToDate s old) ⊎ DateLeft old (utcToDate s old)
+  pub to-x400 : (s old : List ℕ) → DateWritten old (dateToUtc s old) ⊎ DateLeft old (dateToUtc s old)
+  pub utc-back : (d : DateTime) → isDate d ≡ true → readUtc (utcText d) ≡ some d
+  pub date-back : (d : DateTime) → isDate d ≡ true → readDate (dateText d) ≡ some d
+  pub utc-is : (s : List ℕ) (d : DateTime) → readUtc s ≡ some d → isDate d ≡ true
+  pub date-is : (s : List ℕ) (d : DateTime) → readDate s ≡ some d → isDate d ≡ true
+
 -- ---- all of it
 
 pub record Promises : Type 0 where
@@ -134,3 +159,4 @@ pub record Promises : Type 0 where
   pub demand2 : Demand2
   pub demand3 : Demand3Exactly
   pub router : Router
+  pub dates : Dates

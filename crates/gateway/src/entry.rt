@@ -1,4 +1,5 @@
 // Every entry point of the library, each with its promise. Each takes any bytes.
+use dates::convert::DateWritten;
 use mapping::to_address::AddressAnswer;
 use mapping::to_address::ToAddress;
 use mapping::to_address::place;
@@ -34,6 +35,8 @@ ghost use Rattle.mapping.specs.Results.{placed};
 ghost use Rattle.mapping.specs.ToAddress.{recordToAddress};
 ghost use Rattle.mapping.specs.ToRecord.{addressToRecord};
 ghost use Rattle.soundness.specs.Check.{Demand3, toldCheck};
+ghost use Rattle.dates.specs.Answers.{told as toldDate};
+ghost use Rattle.dates.specs.Convert.{dateToUtc, utcToDate};
 ghost use Rattle.router.specs.Run.{Routing};
 ghost use Rattle.gateway.specs.Texts.{readOutcome, recordOfText, textOfRecord};
 
@@ -166,4 +169,18 @@ pub fn route(table: &[u8], over: bool, input: &[u8], last: bool, out: &mut [u8])
     let mut to_domain = [0usize; ROWS_SIZE];
     let read = router::run::open(table, &mut to_path, &mut to_domain);
     router::run::route(table, &to_path, &to_domain, read, over, input, last, out)
+}
+
+// X.400's UTCTime to RFC 822's date-time in a lent buffer: 0, 10 or 6.
+pub fn date_to_822(utc: &[u8], out: &mut [u8]) -> DateWritten
+    ensures { λ r. ⌜ toldDate r (now (out .exit)) ≡ utcToDate (now (utc .entry)) (now (out .entry)) ⌝ }
+{
+    dates::convert::utc_to_date(utc, out)
+}
+
+// RFC 822's date-time to X.400's UTCTime in a lent buffer: 0, 10 or 6.
+pub fn date_to_x400(date: &[u8], out: &mut [u8]) -> DateWritten
+    ensures { λ r. ⌜ toldDate r (now (out .exit)) ≡ dateToUtc (now (date .entry)) (now (out .entry)) ⌝ }
+{
+    dates::convert::date_to_utc(date, out)
 }

@@ -1,6 +1,8 @@
 // The functions for C and for Rust without Rattle. Each slice is a pointer and a length; docs/include/gateway.h says what they do.
 use crate::entry::TEXT_ROOM;
 use crate::entry::check;
+use crate::entry::date_to_822;
+use crate::entry::date_to_x400;
 use crate::entry::put_text;
 use crate::entry::read_record;
 use crate::entry::route;
@@ -9,6 +11,8 @@ use crate::entry::to_address;
 use crate::entry::to_record;
 use crate::entry::write_canonical;
 use chars::write::put;
+use dates::convert::DateWritten;
+use dates::convert::date_number;
 use mapping::to_address::ToAddress;
 use mapping::to_address::address_line;
 use mapping::to_address::address_number;
@@ -29,7 +33,9 @@ ghost use Rattle.mailaddr.specs.Tail.{sharedTail};
 ghost use Rattle.table.specs.Lines.{loadedFrom};
 ghost use Rattle.mapping.specs.Answers.{addressLine, toldAddress};
 ghost use Rattle.router.specs.Run.{Routing};
-ghost use Rattle.gateway.specs.Exports.{Exported, ExportedCheck, Shown, addressToText, filled, packed, textToAddress};
+ghost use Rattle.dates.specs.Answers.{told as toldDate};
+ghost use Rattle.dates.specs.Convert.{dateToUtc, utcToDate};
+ghost use Rattle.gateway.specs.Exports.{Exported, ExportedCheck, ExportedDate, Shown, addressToText, filled, packed, packedDate, textToAddress};
 
 // A result in one value: its number, and 16 times the length or the line.
 fn pack(done: ToAddress) -> usize
@@ -132,4 +138,29 @@ pub extern "C" fn gateway_route(
     *taken = done.taken;
     *written = done.written;
     done.over
+}
+
+// A date's result in one value.
+fn pack_date(done: DateWritten) -> usize
+    requires { ⌜ done .size ≤ 32 ⌝ }
+    ensures { λ r. ⌜ r ≡ packedDate (toldDate done []) ⌝ }
+{
+    let answer = done.answer;
+    date_number(answer) + 16 * done.size
+}
+
+// X.400's UTCTime to RFC 822's date-time in `out`.
+#[no_mangle]
+pub extern "C" fn gateway_date_to_822(utc: &[u8], out: &mut [u8]) -> usize
+    ensures { λ r. ⌜ ExportedDate (utcToDate (now (utc .entry)) (now (out .entry))) r (now (out .exit)) ⌝ }
+{
+    pack_date(date_to_822(utc, out))
+}
+
+// RFC 822's date-time to X.400's UTCTime in `out`.
+#[no_mangle]
+pub extern "C" fn gateway_date_to_x400(date: &[u8], out: &mut [u8]) -> usize
+    ensures { λ r. ⌜ ExportedDate (dateToUtc (now (date .entry)) (now (out .entry))) r (now (out .exit)) ⌝ }
+{
+    pack_date(date_to_x400(date, out))
 }

@@ -42,6 +42,40 @@ const ANSWERS: &[(&str, &[&str])] = &[
         ],
     ),
     ("route's lines", &["0", "1", "2", "3", "4", "5", "7"]),
+    ("date_to_822", &["0", "6", "10"]),
+    (
+        "UTCTime taken",
+        &[
+            "with seconds",
+            "without seconds",
+            "zone by name",
+            "zone by offset",
+            "zone -0000",
+            "negative below an hour",
+            "29 February",
+        ],
+    ),
+    ("UTCTime refused", &["29 February"]),
+    ("date_to_x400", &["0", "6", "10"]),
+    (
+        "date-time taken",
+        &[
+            "with seconds",
+            "without seconds",
+            "zone by name",
+            "zone by offset",
+            "zone -0000",
+            "negative below an hour",
+            "29 February",
+            "day name",
+            "one-digit day",
+        ],
+    ),
+    ("date-time refused", &["29 February"]),
+    (
+        "date there and back",
+        &["from a UTCTime", "from a date-time"],
+    ),
 ];
 
 pub struct Account {
@@ -79,7 +113,7 @@ impl Account {
     }
 
     pub fn count_number(&mut self, function: &'static str, number: usize, line: usize) {
-        const NUMBERS: [&str; 9] = ["0", "1", "2", "3", "4", "5", "6", "7", "8"];
+        const NUMBERS: [&str; 11] = ["0", "1", "2", "3", "4", "5", "6", "7", "8", "9", "10"];
         if number == 7 && line == 0 {
             self.count(function, "7, line 0");
         } else {

@@ -22,7 +22,7 @@ use crate::tables::{joined, Sample};
 type Wanted = Result<Vec<u8>, (usize, usize)>;
 
 /// Room for an answer of this length, at its edge more often than not.
-fn room_about(random: &mut Random, length: usize) -> usize {
+pub fn room_about(random: &mut Random, length: usize) -> usize {
     match random.below(8) {
         0 => length.saturating_sub(1),
         1 => length + 1,

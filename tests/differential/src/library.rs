@@ -42,11 +42,26 @@ mod exports {
             taken: *mut usize,
             written: *mut usize,
         ) -> bool;
+        pub fn gateway_date_to_822(
+            utc: *const u8,
+            utc_len: usize,
+            out: *mut u8,
+            out_len: usize,
+        ) -> usize;
+        pub fn gateway_date_to_x400(
+            date: *const u8,
+            date_len: usize,
+            out: *mut u8,
+            out_len: usize,
+        ) -> usize;
     }
 }
 
 /// A mapping: under a table, of a text, into a buffer.
 pub type Mapping = fn(&[u8], &[u8], &mut [u8]) -> usize;
+
+/// A date of one form to the other: of a text, into a buffer.
+pub type Conversion = fn(&[u8], &mut [u8]) -> usize;
 
 pub fn to_record(table: &[u8], text: &[u8], out: &mut [u8]) -> usize {
     unsafe {
@@ -109,4 +124,12 @@ pub fn route(
         )
     };
     (over, taken, written)
+}
+
+pub fn date_to_822(utc: &[u8], out: &mut [u8]) -> usize {
+    unsafe { exports::gateway_date_to_822(utc.as_ptr(), utc.len(), out.as_mut_ptr(), out.len()) }
+}
+
+pub fn date_to_x400(date: &[u8], out: &mut [u8]) -> usize {
+    unsafe { exports::gateway_date_to_x400(date.as_ptr(), date.len(), out.as_mut_ptr(), out.len()) }
 }

@@ -9,6 +9,7 @@ mod account;
 mod addresses;
 mod calls;
 mod damage;
+mod dates;
 mod lent;
 mod library;
 mod random;
@@ -65,12 +66,13 @@ fn options() -> Option<Options> {
 fn one_round(round: &mut Round, account: &mut Account) -> Compared {
     account.tables += 1;
     for _ in 0..CALLS_OF_A_ROUND {
-        match round.random.below(18) {
+        match round.random.below(20) {
             0..=6 => calls::to_record(round, account)?,
             7..=14 => calls::to_address(round, account)?,
             15 => calls::check(round, account)?,
             16 => calls::shared_tail(round, account)?,
-            _ => routes::route(round, account)?,
+            17 => routes::route(round, account)?,
+            _ => dates::date(round, account)?,
         }
     }
     Ok(())

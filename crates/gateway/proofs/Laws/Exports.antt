@@ -38,7 +38,12 @@ use Rattle.mapping.specs.declared.to_record.RecordAnswer.the-variants as record
 use Rattle.mapping.specs.declared.to_record.ToRecord.{ToRecord}
 use Rattle.mapping.proofs.Laws.Returned.{done-canonical}
 use Rattle.soundness.specs.Check.{CheckResult, Demand3}
-use Rattle.gateway.specs.Exports.{Exported, ExportedCheck, Shown, addressToText, packed, readingToAddress, textResult, textToAddress, textToAddressBy}
+use Rattle.dates.specs.Answers.{dateNumber, told as toldDate}
+use Rattle.dates.specs.Convert.{DateResult}
+use Rattle.dates.specs.declared.convert.DateAnswer.{DateAnswer}
+use Rattle.dates.specs.declared.convert.DateAnswer.the-variants as date-answer
+use Rattle.dates.specs.declared.convert.DateWritten.{DateWritten}
+use Rattle.gateway.specs.Exports.{Exported, ExportedCheck, ExportedDate, Shown, addressToText, packed, packedDate, readingToAddress, textResult, textToAddress, textToAddressBy}
 use Rattle.gateway.specs.Texts.{readOutcome, recordOfText}
 use Rattle.gateway.proofs.Laws.Texts.{outcome-done, outcome-not}
 use Rattle.gateway.proofs.Laws.Bounds.{address-bound, line-bound, mostCount, placed-line, placed-size, record-line-bound}
@@ -204,3 +209,18 @@ check-line table o d = by-table (loadedFrom table) refl d
 pub shown-size : (r : Record) (old new : List ℕ) (n : ℕ) → canonicalRecord r ≡ true → Shown (recordText keys (view r)) old n new → n ≤ mostCount
 unfolding remaining
 shown-size r old new n c k = omega (arith, k .size, text-bound (view r) (canonical-view r c) 0)
+
+-- ---- dates
+
+pub date-small : (a : DateAnswer) → dateNumber a ≤ 10
+date-small date-answer.Done = omega arith
+date-small date-answer.NoDate = omega arith
+date-small date-answer.ShortBuffer = omega arith
+
+-- a date's result as it was told, in one value
+pub exported-date : (o : DateResult) (w : DateWritten) (r : ℕ) (new : List ℕ) → toldDate w new ≡ o → r ≡ packedDate (toldDate w []) → ExportedDate o r new
+unfolding packedDate
+exported-date o w r new e k = record { value = k ∙ ap packedDate e; buffer = ap (λ (x : DateResult). x .buffer) e }
+
+pub size-most : (o : DateResult) (w : DateWritten) (new : List ℕ) → toldDate w new ≡ o → o .size ≤ 32 → w .size ≤ 32
+size-most o w new e h = let n : w .size ≡ o .size = ap (λ (x : DateResult). x .size) e in omega arith

@@ -43,11 +43,26 @@ mod exports {
             taken: *mut usize,
             written: *mut usize,
         ) -> bool;
+        pub fn gateway_date_to_822(
+            utc: *const u8,
+            utc_len: usize,
+            out: *mut u8,
+            out_len: usize,
+        ) -> usize;
+        pub fn gateway_date_to_x400(
+            date: *const u8,
+            date_len: usize,
+            out: *mut u8,
+            out_len: usize,
+        ) -> usize;
     }
 }
 
 /// Room for any answer.
 pub const ANSWER_ROOM: usize = 2563;
+
+/// Room for any date, in either form.
+pub const DATE_ROOM: usize = 24;
 
 /// Why there is no text.
 #[derive(Clone, Copy, Debug, PartialEq, Eq)]
@@ -169,4 +184,36 @@ pub fn route(table: &[u8], over: bool, input: &[u8], last: bool, out: &mut [u8])
         taken,
         written,
     }
+}
+
+/// The text of a date, which always fits in the room that was lent; None where the other was malformed or impossible.
+fn date(answer: usize, out: &[u8]) -> Option<Vec<u8>> {
+    match answer % 16 {
+        0 => Some(out[..answer / 16].to_vec()),
+        10 => None,
+        number => unreachable!("a date with room answered {number}"),
+    }
+}
+
+/// The date-time of RFC 822 that a UTCTime of X.400 is.
+pub fn date_to_822(utc: &[u8]) -> Option<Vec<u8>> {
+    let mut out = [0; DATE_ROOM];
+    let answer = unsafe {
+        exports::gateway_date_to_822(utc.as_ptr(), utc.len(), out.as_mut_ptr(), out.len())
+    };
+    date(answer, &out)
+}
+
+/// The UTCTime of X.400 that a date-time of RFC 822 is.
+pub fn date_to_x400(date_time: &[u8]) -> Option<Vec<u8>> {
+    let mut out = [0; DATE_ROOM];
+    let answer = unsafe {
+        exports::gateway_date_to_x400(
+            date_time.as_ptr(),
+            date_time.len(),
+            out.as_mut_ptr(),
+            out.len(),
+        )
+    };
+    date(answer, &out)
 }

@@ -1,0 +1,42 @@
+// Runs the two mappings of dates on the cases in stdin. The cases and what must be printed are made by tests/date_cases.py, which follows
+// request 6 by itself and runs nothing of the library.
+//
+// Standard input is lines, each a letter, a tab and a text:
+//   U TEXT    a UTCTime to a date-time
+//   R TEXT    a date-time to a UTCTime
+//   u TEXT    a UTCTime to a date-time, in a buffer of each length from 0 on, up to one over the longest text's
+//   r TEXT    a date-time to a UTCTime, in the same buffers
+// Printed of a text: the number, a tab, and with 0 the text it is mapped to. With u and r, of each buffer: the number, the length that is
+// told, and the whole buffer as it then is, one tab apart; before, it is all dots.
+mod case;
+mod print;
+
+use case::run_line;
+ghost use Prim.Native.Nat.{_<_, _≤_};
+ghost use lib.ListN.{length};
+
+// Standard input, at most.
+const ROOM: usize = 262144;
+
+// Where the line that starts at a place ends.
+fn line_end(s: &[u8], from: usize) -> usize
+    requires { ⌜ from < length (now s) ⌝ }
+    ensures { λ r. ⌜ (from ≤ r) × (r ≤ length (now (s .entry))) ⌝ }
+{
+    chars::parts::part_end(s, from, b'\n')
+}
+
+fn run(s: &[u8]) {
+    let mut from = 0;
+    while from < s.len() {
+        let end = line_end(s, from);
+        run_line(&s[from..end]);
+        from = end + 1;
+    }
+}
+
+fn main() {
+    let mut space = [0u8; ROOM];
+    let n = io::read_full(libc::STDIN_FILENO, &mut space);
+    run(&space[..n]);
+}

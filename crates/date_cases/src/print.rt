@@ -1,0 +1,51 @@
+// What the program prints.
+use dates::convert::DateAnswer;
+use dates::convert::DateWritten;
+use libc::STDOUT_FILENO;
+ghost use mathlib.Core.Path.{_≡_};
+ghost use lib.ListN.{take};
+
+fn say(s: &[u8]) {
+    io::write_all(STDOUT_FILENO, s);
+}
+
+fn say_number(n: usize) {
+    io::print_decimal(STDOUT_FILENO, n as u64);
+}
+
+// The first n bytes of a buffer, or all of it.
+fn front(out: &[u8], n: usize) -> &[u8]
+    ensures { λ r. ⌜ now r ≡ take n (now (out .entry)) ⌝ }
+{
+    if out.len() < n {
+        return out;
+    }
+    &out[0..n]
+}
+
+// The number of an answer, and a tab.
+fn print_answer(answer: DateAnswer) {
+    match answer {
+        DateAnswer::Done => say(b"0\t"),
+        DateAnswer::NoDate => say(b"10\t"),
+        DateAnswer::ShortBuffer => say(b"6\t"),
+    }
+}
+
+// The number, and the text: with a refusal its length is 0.
+pub(crate) fn print_text(done: DateWritten, out: &[u8]) {
+    let answer = done.answer;
+    print_answer(answer);
+    say(front(out, done.size));
+    say(b"\n");
+}
+
+// The number, the length that is told, and the whole buffer.
+pub(crate) fn print_buffer(done: DateWritten, out: &[u8]) {
+    let answer = done.answer;
+    print_answer(answer);
+    say_number(done.size);
+    say(b"\t");
+    say(out);
+    say(b"\n");
+}

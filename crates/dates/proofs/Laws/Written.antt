@@ -1,0 +1,42 @@
+-- Laws of writing dates.
+-- Assumes nothing.
+use mathlib.Core.Path.{_≡_, refl, subst}
+use mathlib.Core.List.{List, _∷_, _++_}
+use Prim.Native.Nat.{ℕ, _≤_}
+use native.Mathlib.Omega.{arith}
+use lib.IntN.{ℤ}
+use lib.ListN.{length}
+use Rattle.chars.specs.Write.{Wrote}
+use Rattle.dates.specs.Write.{dateSecondText, two, utcSecondText, zoneText}
+use Rattle.dates.specs.declared.date.Second.{Second}
+use Rattle.dates.specs.declared.date.Second.the-variants.{At, Absent}
+
+-- a write of a text is one of an equal text
+pub wrote-as : {o n : List ℕ} {i j : ℕ} (s t : List ℕ) → s ≡ t → Wrote o i s j n → Wrote o i t j n
+wrote-as {o} {n} {i} {j} s t e w = subst (λ (u : List ℕ). Wrote o i u j n) e w
+
+pub two-length : (n : ℕ) → length (two n) ≡ 2
+unfolding two
+two-length n = refl
+
+pub zone-length : (z : ℤ) → length (zoneText z) ≡ 5
+unfolding zoneText two
+zone-length z = refl
+
+pub utc-second-length : (s : Second) → length (utcSecondText s) ≤ 2
+unfolding utcSecondText two
+utc-second-length (At n) = omega arith
+utc-second-length Absent = omega arith
+
+pub date-second-length : (s : Second) → length (dateSecondText s) ≤ 3
+unfolding dateSecondText two
+date-second-length (At n) = omega arith
+date-second-length Absent = omega arith
+
+pub utc-day-length : (y m d : ℕ) → length (two y ++ two m ++ two d) ≡ 6
+unfolding two
+utc-day-length y m d = refl
+
+pub behind-length : (b n : ℕ) → length (b ∷ two n) ≡ 3
+unfolding two
+behind-length b n = refl

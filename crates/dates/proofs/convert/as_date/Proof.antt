@@ -1,0 +1,58 @@
+-- `dates::convert::as_date` meets its contract.
+-- Assumes nothing.
+use mathlib.Core.Path.{sym, ap, _∙_}
+use mathlib.Core.List.{List}
+use Prim.Native.Nat.{ℕ, _≤_}
+use native.Mathlib.Omega.{arith}
+use lib.ListN.{length}
+use lib.Seq.{length-take-le}
+use Rattle.chars.proofs.Laws.Write.{wrote-length, wrote-taken}
+use Rattle.dates.specs.Convert.{placed}
+use Rattle.dates.proofs.Laws.Convert.{date-length}
+use borrow.Author.Needs.{needs}
+use Rattle.dates.proofs.convert.as_date.Statement.{statement}
+use Rattle.dates.proofs.convert.as_date.Tie as tie
+
+slice-aggregate-write-date : tie.Need-slice-aggregate-write-date
+slice-aggregate-write-date c = search needs
+
+write-date-requires : tie.Need-write-date-requires
+write-date-requires c κs = search needs
+
+-- the text fits
+fits : (c : tie.After-write-date) → c .write-date .result ≤ length (c .write-date .last .0)
+fits c =
+    let s = c .before .before .before in
+    omega (arith, c .write-date .ensures .moved, wrote-length (c .write-date .ensures), date-length (s .args .d) (s .pre))
+
+array-share-prefix-text : tie.Need-array-share-prefix-text
+array-share-prefix-text c = fits (c .before .before)
+
+slice-aggregate-place : tie.Need-slice-aggregate-place
+slice-aggregate-place c =
+    let w = c .before .before .before .write-date in
+    sym (length-take-le (w .result) (w .last .0) (fits (c .before .before .before)))
+
+place-requires : tie.Need-place-requires
+place-requires c κs = search needs
+
+same-length : tie.Need-same-length
+same-length c = search needs
+
+returns : tie.Need-returns
+returns c =
+    let w = c .before .before .before .before .before .before in
+    let s = w .before .before .before in
+    c .before .before .place .ensures ∙ ap (λ (t : List ℕ). placed t (s .args .out .now)) (wrote-taken (w .write-date .ensures) (omega (arith, date-length (s .args .d) (s .pre))))
+
+pub as-date-spec : {M : Type 1} → statement M
+as-date-spec =
+    tie.close
+    (tie.spec
+    slice-aggregate-write-date
+    write-date-requires
+    array-share-prefix-text
+    slice-aggregate-place
+    place-requires
+    same-length
+    returns)
