@@ -177,7 +177,7 @@ fn run_texts(command: u8, s: &[u8], at: usize) -> usize
 }
 
 // Runs the command at a place, and returns where the next one starts.
-pub fn run_one(s: &[u8], at: usize) -> usize
+pub(crate) fn run_one(s: &[u8], at: usize) -> usize
     requires { ⌜ at < length (now s) ⌝ }
     requires { ⌜ length (now s) ≤ 524288 ⌝ }
     ensures { λ r. ⌜ at < r ⌝ }

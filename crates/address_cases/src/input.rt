@@ -35,7 +35,7 @@ fn shown(n: usize) -> usize
 }
 
 // n bytes from a place on, or as many as there are.
-pub fn part(s: &[u8], at: usize, n: usize) -> &[u8]
+pub(crate) fn part(s: &[u8], at: usize, n: usize) -> &[u8]
     ensures { λ r. ⌜ length (now r) ≤ n ⌝ }
 {
     let end = s.len();
@@ -50,7 +50,7 @@ pub fn part(s: &[u8], at: usize, n: usize) -> &[u8]
 }
 
 // The text at a place, or as much of it as there is and is looked at.
-pub fn text_at(s: &[u8], at: usize) -> &[u8]
+pub(crate) fn text_at(s: &[u8], at: usize) -> &[u8]
     requires { ⌜ at < 1000000 ⌝ }
     ensures { λ r. ⌜ length (now r) ≤ 2100 ⌝ }
 {
@@ -58,7 +58,7 @@ pub fn text_at(s: &[u8], at: usize) -> &[u8]
 }
 
 // Where the text at a place ends.
-pub fn past_text(s: &[u8], at: usize) -> usize
+pub(crate) fn past_text(s: &[u8], at: usize) -> usize
     requires { ⌜ at < 1000000 ⌝ }
     ensures { λ r. ⌜ (at < r) × (r ≤ at + 65537) ⌝ }
 {

@@ -45,7 +45,7 @@ fn part(s: &[u8], at: usize, n: usize) -> &[u8]
 }
 
 // The text at a place: one byte for its length, and then its bytes, or as many as there are.
-pub fn text_at(s: &[u8], at: usize) -> &[u8]
+pub(crate) fn text_at(s: &[u8], at: usize) -> &[u8]
     requires { ⌜ at < 1000000 ⌝ }
     ensures { λ r. ⌜ length (now r) ≤ length (now (s .entry)) ⌝ }
 {
@@ -53,7 +53,7 @@ pub fn text_at(s: &[u8], at: usize) -> &[u8]
 }
 
 // Where the text at a place ends.
-pub fn past_text(s: &[u8], at: usize) -> usize
+pub(crate) fn past_text(s: &[u8], at: usize) -> usize
     requires { ⌜ at < 1000000 ⌝ }
     ensures { λ r. ⌜ (at < r) × (r ≤ at + 256) ⌝ }
 {
@@ -107,7 +107,7 @@ fn add_one(s: &[u8], at: usize, tag: usize, rec: Record) -> Record
     told(rec.with(attribute(tag), text))
 }
 
-pub fn add(s: &[u8], at: usize, rec: Record) -> Step
+pub(crate) fn add(s: &[u8], at: usize, rec: Record) -> Step
     requires { ⌜ at < 800000 ⌝ }
     ensures { λ r. ⌜ at < r .next ⌝ }
 {
@@ -208,7 +208,7 @@ fn width(tag: usize) -> usize
     }
 }
 
-pub fn disturb(s: &[u8], at: usize, rec: Record) -> Step
+pub(crate) fn disturb(s: &[u8], at: usize, rec: Record) -> Step
     requires { ⌜ at < 800000 ⌝ }
     ensures { λ r. ⌜ at < r .next ⌝ }
 {

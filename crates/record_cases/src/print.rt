@@ -14,11 +14,11 @@ use oraddr::value::OrgUnit;
 use oraddr::value::Value;
 
 // One digit.
-pub fn digit(n: u64) {
+pub(crate) fn digit(n: u64) {
     io::print_decimal(STDOUT_FILENO, n);
 }
 
-pub fn flag(b: bool) {
+pub(crate) fn flag(b: bool) {
     if b {
         digit(1);
     } else {
@@ -26,7 +26,7 @@ pub fn flag(b: bool) {
     }
 }
 
-pub fn line_end() {
+pub(crate) fn line_end() {
     io::write_all(STDOUT_FILENO, b"\n");
 }
 
@@ -131,7 +131,7 @@ fn print_flags(rec: Record, other: Record) {
 }
 
 // The flags, the attributes and the levels.
-pub fn print_record(rec: Record, other: Record) {
+pub(crate) fn print_record(rec: Record, other: Record) {
     print_flags(rec, other);
     print_singles(rec);
     print_units(rec.units);

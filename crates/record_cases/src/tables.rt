@@ -60,7 +60,7 @@ fn print_folded() {
     line_end();
 }
 
-pub fn print_tables() {
+pub(crate) fn print_tables() {
     print_classes();
     print_folded();
 }
@@ -75,7 +75,7 @@ fn print_rules(text: &[u8]) {
 }
 
 // Prints the rules that the text of a command keeps, and says where the next command starts.
-pub fn print_text_rules(s: &[u8], at: usize) -> usize
+pub(crate) fn print_text_rules(s: &[u8], at: usize) -> usize
     requires { ⌜ at < 800000 ⌝ }
     ensures { λ r. ⌜ at < r ⌝ }
 {

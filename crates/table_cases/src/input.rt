@@ -1,9 +1,10 @@
 // Lines and fields of the input, each kept within the text it is read from.
-ghost use Prim.Native.Nat.{_≤_};
-ghost use lib.ListN.{length};
+ghost use mathlib.Core.Path.{_≡_};
+ghost use Prim.Native.Nat.{_-_, _≤_};
+ghost use lib.ListN.{drop, length, take};
 
 // Where the part that starts at a place ends: at the next separator, or at the end of the text.
-pub fn end_of(s: &[u8], from: usize, sep: u8) -> usize
+pub(crate) fn end_of(s: &[u8], from: usize, sep: u8) -> usize
     requires { ⌜ from ≤ length (now s) ⌝ }
     ensures { λ r. ⌜ (from ≤ r) × (r ≤ length (now (s .entry))) ⌝ }
 {
@@ -11,8 +12,9 @@ pub fn end_of(s: &[u8], from: usize, sep: u8) -> usize
 }
 
 // What stands from a place up to another, or nothing where the first is past the second.
-pub fn part(s: &[u8], from: usize, end: usize) -> &[u8]
+pub(crate) fn part(s: &[u8], from: usize, end: usize) -> &[u8]
     requires { ⌜ end ≤ length (now s) ⌝ }
+    ensures { λ r. ⌜ now r ≡ take (end - from) (drop from (now (s .entry))) ⌝ }
 {
     if end < from {
         return &s[end..end];
@@ -21,7 +23,7 @@ pub fn part(s: &[u8], from: usize, end: usize) -> &[u8]
 }
 
 // Where the part behind a separator starts; there is an empty one at the end of the text.
-pub fn behind(s: &[u8], end: usize) -> usize
+pub(crate) fn behind(s: &[u8], end: usize) -> usize
     requires { ⌜ end ≤ length (now s) ⌝ }
     ensures { λ r. ⌜ r ≤ length (now (s .entry)) ⌝ }
 {

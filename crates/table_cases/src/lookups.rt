@@ -67,7 +67,7 @@ fn run_query(kind: u8, line: &[u8], text: &[u8], to_path: &[usize], to_domain: &
 }
 
 // Runs the look-ups from `at` on up to the next table's line, and returns where that starts.
-pub fn run_queries(
+pub(crate) fn run_queries(
     s: &[u8],
     at: usize,
     text: &[u8],

@@ -2,7 +2,7 @@
 use libc::STDOUT_FILENO;
 use table::lookup::Found;
 
-pub fn say(s: &[u8]) {
+pub(crate) fn say(s: &[u8]) {
     io::write_all(STDOUT_FILENO, s);
 }
 
@@ -10,13 +10,13 @@ fn say_number(n: usize) {
     io::print_decimal(STDOUT_FILENO, n as u64);
 }
 
-pub fn print_malformed(line: usize) {
+pub(crate) fn print_malformed(line: usize) {
     say(b"7 ");
     say_number(line);
     say(b"\n");
 }
 
-pub fn print_rows(to_path: usize, to_domain: usize) {
+pub(crate) fn print_rows(to_path: usize, to_domain: usize) {
     say(b"0 ");
     say_number(to_path);
     say(b" ");
@@ -24,7 +24,7 @@ pub fn print_rows(to_path: usize, to_domain: usize) {
     say(b"\n");
 }
 
-pub fn print_found(found: Found) {
+pub(crate) fn print_found(found: Found) {
     match found {
         Found::At(i) => say_number(i),
         Found::Nowhere => say(b"none"),

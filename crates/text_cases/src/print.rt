@@ -19,7 +19,7 @@ ghost use Rattle.ortext.specs.Places.{Placed};
 // Room for the longest text of a canonical record.
 const ROOM: usize = 2304;
 
-pub fn say(s: &[u8]) {
+pub(crate) fn say(s: &[u8]) {
     io::write_all(STDOUT_FILENO, s);
 }
 
@@ -63,7 +63,7 @@ fn print_record(rec: Record) {
     print_locals(rec);
 }
 
-pub fn print_reading(r: Reading) {
+pub(crate) fn print_reading(r: Reading) {
     let answer = r.answer;
     match answer {
         Answer::Done => print_record(r.record),
@@ -98,7 +98,7 @@ fn print_places(s: &[u8], p: NamePlaces)
     say(&s[surname..]);
 }
 
-pub fn print_name(s: &[u8]) {
+pub(crate) fn print_name(s: &[u8]) {
     match read_name(s) {
         NameRead::Name(p) => print_places(s, p),
         NameRead::NoName => say(b"no name"),

@@ -6,7 +6,7 @@ ghost use mathlib.Core.Path.{_≡_};
 ghost use Prim.Native.Nat.{_≤_};
 
 // How many levels a digit settles.
-pub fn levels(digit: u8) -> usize
+pub(crate) fn levels(digit: u8) -> usize
     ensures { λ r. ⌜ r ≤ 8 ⌝ }
 {
     match digit {
@@ -62,7 +62,7 @@ fn with_level(rec: Record, k: usize) -> Record
 }
 
 // The record with the levels that a digit settles. No DD is settled.
-pub fn base(digit: u8) -> Record
+pub(crate) fn base(digit: u8) -> Record
     ensures { λ r. ⌜ r .dds .count ≡ 0 ⌝ }
 {
     let n = filled(digit);

@@ -1,0 +1,47 @@
+-- `table_cases::input::part` meets its contract: nothing where the first place is past the second.
+-- Assumes nothing.
+use mathlib.Core.Path.{_≡_, ap, sym, _∙_}
+use Prim.Native.Nat.{ℕ, _-_}
+use native.Mathlib.Omega.{arith}
+use lib.ListN.{drop, take}
+use borrow.Author.Needs.{needs}
+use Rattle.table_cases.proofs.input.part.Statement.{statement}
+use Rattle.table_cases.proofs.input.part.Tie as tie
+
+sub-result : tie.Need-sub-result
+sub-result c = search needs
+
+part-result-start : tie.Need-part-result-start
+part-result-start c = search needs
+
+part-result-end : tie.Need-part-result-end
+part-result-end c = search needs
+
+returns : tie.Need-returns
+returns c =
+    let a = c .before .before .args in
+    let s = a .s .now in
+    let e : a .end - a .end ≡ 0 = omega arith in
+    let f : a .end - a .from ≡ 0 = omega arith in
+    ap (λ (k : ℕ). take k (drop (a .end) s)) e ∙ sym (ap (λ (k : ℕ). take k (drop (a .from) s)) f)
+
+part-result-start-2 : tie.Need-part-result-start-2
+part-result-start-2 c = search needs
+
+part-result-end-2 : tie.Need-part-result-end-2
+part-result-end-2 c = search needs
+
+returns-2 : tie.Need-returns-2
+returns-2 c = search needs
+
+pub part-spec : {M : Type 1} → statement M
+part-spec =
+    tie.close
+    (tie.spec
+    sub-result
+    part-result-start
+    part-result-end
+    returns
+    part-result-start-2
+    part-result-end-2
+    returns-2)
