@@ -1,8 +1,11 @@
 -- The byte classes of document 01: "The record", "The table text" and "Address to record". Each is written from the
--- list in its sentence; nothing else in the project says which bytes a class has.
+-- list in its sentence, the printable string characters as ranges with the list beside them; nothing else in the project
+-- says which bytes a class has.
 -- Assumes nothing.
-use Prim.Native.Nat.{ℕ}
-use mathlib.Core.Bool.{Bool, true, _&&_, _||_, not}
+use Prim.Native.Nat.{ℕ, _<_}
+use mathlib.Core.Bool.{Bool, true, false, _&&_, _||_, not}
+use mathlib.Core.List.{List, [], _∷_, _++_}
+use mathlib.Core.Path.{_≡_}
 use lib.Dec.{leb, eqb}
 use Rattle.chars.specs.Lists.{bytes, member}
 use Rattle.chars.specs.declared.class.Class.{Class}
@@ -22,10 +25,47 @@ unfoldable pub isDigit : ℕ → Bool
 unfolding between
 isDigit b = between 48 57 b
 
--- document 01: "printable string characters (letters, digits, space `' + , - . / : = ? ( )`)"
+-- from the byte lo to the byte hi, both included
+pub record Range : Type 0 where
+  pub lo : ℕ
+  pub hi : ℕ
+
+-- b lies in one of the ranges
+unfoldable pub inOneOf : List Range → ℕ → Bool
+unfolding between
+inOneOf [] b = false
+inOneOf (r ∷ rs) b = between (r .lo) (r .hi) b || inOneOf rs b
+
+-- The printable string characters, in the order of their bytes. RFC 1327, 3.3.3:
+--     ps-restricted-char = 1DIGIT / 1ALPHA / " " / "'" / "+" / "," / "-" / "." / "/" / ":" / "=" / "?"
+--     ps-delim           = "(" / ")"
+--     ps-char            = ps-delim / ps-restricted-char
+unfoldable pub printableRanges : List Range
+printableRanges =
+    record { lo = 32; hi = 32 }  -- space
+    ∷ record { lo = 39; hi = 41 }  -- ' ( )
+    ∷ record { lo = 43; hi = 58 }  -- + , - . / 0 1 2 3 4 5 6 7 8 9 :
+    ∷ record { lo = 61; hi = 61 }  -- =
+    ∷ record { lo = 63; hi = 63 }  -- ?
+    ∷ record { lo = 65; hi = 90 }  -- A B C D E F G H I J K L M N O P Q R S T U V W X Y Z
+    ∷ record { lo = 97; hi = 122 }  -- a b c d e f g h i j k l m n o p q r s t u v w x y z
+    ∷ []
+
 unfoldable pub isPrintable : ℕ → Bool
-unfolding bytes member isLetter isDigit
-isPrintable b = isLetter b || isDigit b || member b (bytes " '+,-./:=?()")
+unfolding inOneOf printableRanges
+isPrintable b = inOneOf printableRanges b
+
+-- the same set as document 01 prints it: "printable string characters (letters, digits, space `' + , - . / : = ? ( )`)"
+unfoldable pub printableList : List ℕ
+unfolding bytes
+printableList =
+    bytes "ABCDEFGHIJKLMNOPQRSTUVWXYZabcdefghijklmnopqrstuvwxyz"
+    ++ bytes "0123456789"
+    ++ bytes " '+,-./:=?()"
+
+-- for each of the 256 bytes the ranges answer as the list does
+abbrev pub PrintableIsTheList : Type 0
+PrintableIsTheList = (b : ℕ) → b < 256 → isPrintable b ≡ member b printableList
 
 -- document 01: "the printable string set and `$`"
 unfoldable pub isQuotable : ℕ → Bool

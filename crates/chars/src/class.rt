@@ -1,6 +1,6 @@
 // Byte classes (document 01, "The record", "The table text", "Address to record").
 ghost use mathlib.Core.Path.{_≡_};
-ghost use Rattle.chars.specs.Class.{isAtomChar, isDigit, isIn, isLabelChar, isLetter, isPrintable, isQuotable};
+ghost use Rattle.chars.specs.Class.{isAtomChar, isDigit, isIn, isLabelChar, isLetter, isPrintable, isQuotable, PrintableIsTheList};
 ghost use Rattle.chars.specs.Lists.{all};
 
 // A class by its name, for the loops that test a whole string.
@@ -42,34 +42,43 @@ pub fn is_digit(b: u8) -> bool
     b <= b'9'
 }
 
-// The ranges are the letters, which most texts are made of and so come first; and below them space, ' to ), + to : (the digits among
-// them), = and ?.
+// The printable string characters, range by range from the last one down, so that the letters, which most texts are made of, come
+// first. RFC 1327, section 3.3.3, has them as `ps-char`.
 pub fn is_printable(b: u8) -> bool
     ensures { λ r. ⌜ r ≡ isPrintable b ⌝ }
 {
+    // a b c d e f g h i j k l m n o p q r s t u v w x y z
     if b'a' <= b {
         return b <= b'z';
     }
+    // A B C D E F G H I J K L M N O P Q R S T U V W X Y Z
     if b'A' <= b {
         return b <= b'Z';
     }
-    if b < b'\'' {
-        return b == b' ';
+    // ?
+    if b'?' <= b {
+        return b == b'?';
     }
-    if b <= b')' {
-        return true;
+    // =
+    if b'=' <= b {
+        return b == b'=';
     }
-    if b < b'+' {
-        return false;
+    // + , - . / 0 1 2 3 4 5 6 7 8 9 :
+    if b'+' <= b {
+        return b <= b':';
     }
-    if b <= b':' {
-        return true;
+    // ' ( )
+    if b'\'' <= b {
+        return b <= b')';
     }
-    if b == b'=' {
-        return true;
-    }
-    b == b'?'
+    // space
+    b == b' '
 }
+
+// Does nothing: its contract is that the answer for each of the 256 bytes is document 01's list.
+pub fn printable_is_the_list()
+    ensures { λ _. ⌜ PrintableIsTheList ⌝ }
+{}
 
 // A printable string character, or the `$` that quotes one.
 pub fn is_quotable(b: u8) -> bool

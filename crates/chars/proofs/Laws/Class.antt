@@ -2,6 +2,7 @@
 -- Assumes nothing.
 use mathlib.Core.Path.{_≡_, refl, subst, subst⁻¹}
 use mathlib.Core.Bool.{Bool, true, false, _&&_, _||_, not, Bool·beq}
+use mathlib.Core.List.{List, [], _∷_}
 use mathlib.Core.Logic.{⊎-elim}
 use Prim.Native.Nat.{ℕ, zero, suc, _+_, _≤_, _<_, zero-le}
 use native.Mathlib.Nat.{eq-or-lt-of-le}
@@ -9,8 +10,8 @@ use native.Mathlib.Omega.{arith}
 use lib.Dec.{T, leb, eqb}
 use borrow.Author.Tests.{eqb-true, leb-true}
 use Rattle.chars.specs.Lists.{all, bytes, member}
-use Rattle.chars.specs.Class.{between, isAtomChar, isDigit, isLabelChar, isLetter, isPrintable}
-use Rattle.chars.proofs.Laws.Lists.{all-member, and-left, and-right, or-cases}
+use Rattle.chars.specs.Class.{between, inOneOf, isAtomChar, isDigit, isLabelChar, isLetter, isPrintable, printableList, printableRanges, PrintableIsTheList, Range}
+use Rattle.chars.proofs.Laws.Lists.{and-left, and-right, or-cases}
 
 -- ---- on a range
 
@@ -43,6 +44,13 @@ on-range-but r p q lo n t b l h e =
     let f : (r b || Bool·beq (p b) (q b)) ≡ true = on-range (λ b. r b || Bool·beq (p b) (q b)) (λ _. true) lo n t b l h in
     beq-path (p b) (q b) (subst⁻¹ T (rw e at f) tt)
 
+-- ---- the printable string set
+
+-- the ranges against the list: one test, computed over the 256 bytes
+pub printable-is-the-list : PrintableIsTheList
+unfolding isPrintable printableList member
+printable-is-the-list b h = on-range isPrintable (λ b. member b printableList) 0 256 tt b zero-le (omega arith)
+
 -- ---- where a class ends
 
 between-high : (lo hi b : ℕ) → between lo hi b ≡ true → b ≤ hi
@@ -67,12 +75,18 @@ digit-below b e = omega (arith, between-high 48 57 b e)
 letter-digit-below : (b : ℕ) → (isLetter b || isDigit b) ≡ true → b < 128
 letter-digit-below b e = or-cases (isLetter b) (isDigit b) e (letter-below b) (digit-below b)
 
+-- what lies in one of the ranges is at most n where each of them ends there or before
+ranges-below : (n : ℕ) (rs : List Range) → all (λ r. leb (r .hi) n) rs ≡ true → (b : ℕ) → inOneOf rs b ≡ true → b ≤ n
+unfolding all inOneOf
+ranges-below n [] h b e = absurd (subst⁻¹ T e tt)
+ranges-below n (r ∷ rs) h b e =
+    or-cases (between (r .lo) (r .hi) b) (inOneOf rs b) e
+    (λ f. omega (arith, between-high (r .lo) (r .hi) b f, leb-true (r .hi) n (and-left (leb (r .hi) n) (all (λ r. leb (r .hi) n) rs) h)))
+    (ranges-below n rs (and-right (leb (r .hi) n) (all (λ r. leb (r .hi) n) rs) h) b)
+
 pub printable-below : (b : ℕ) → isPrintable b ≡ true → b < 128
-unfolding isPrintable bytes all
-printable-below b e =
-    or-cases (isLetter b || isDigit b) (member b (bytes " '+,-./:=?()")) e
-    (letter-digit-below b)
-    (λ h. omega (arith, leb-true b 127 (all-member (λ x. leb x 127) (bytes " '+,-./:=?()") b refl h)))
+unfolding isPrintable all
+printable-below b e = omega (arith, ranges-below 127 printableRanges refl b e)
 
 pub label-below : (b : ℕ) → isLabelChar b ≡ true → b < 128
 unfolding isLabelChar
@@ -96,15 +110,15 @@ within p q n f t b e =
     rw e at h
 
 pub letter-printable : (b : ℕ) → isLetter b ≡ true → isPrintable b ≡ true
-unfolding between isLetter isPrintable bytes member
+unfolding isLetter isPrintable
 letter-printable = within isLetter isPrintable 128 letter-below tt
 
 pub digit-printable : (b : ℕ) → isDigit b ≡ true → isPrintable b ≡ true
-unfolding between isDigit isPrintable bytes member
+unfolding isDigit isPrintable
 digit-printable = within isDigit isPrintable 128 digit-below tt
 
 pub label-printable : (b : ℕ) → isLabelChar b ≡ true → isPrintable b ≡ true
-unfolding between isLabelChar isLetter isDigit isPrintable bytes member
+unfolding isLabelChar isPrintable
 label-printable = within isLabelChar isPrintable 128 label-below tt
 
 pub label-atom : (b : ℕ) → isLabelChar b ≡ true → isAtomChar b ≡ true

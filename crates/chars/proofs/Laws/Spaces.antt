@@ -8,8 +8,8 @@ use borrow.Author.Tests.{eqb-true}
 use native.Mathlib.Omega.{arith}
 use lib.Dec.{eqb}
 use lib.ListN.{length}
-use Rattle.chars.specs.Lists.{all, bytes, first, last, member, nonEmpty}
-use Rattle.chars.specs.Class.{between, isDigit, isIn, isLetter, isPrintable}
+use Rattle.chars.specs.Lists.{all, first, last, nonEmpty}
+use Rattle.chars.specs.Class.{between, isIn, isLetter, isPrintable}
 use Rattle.chars.specs.Case.{foldText}
 use Rattle.chars.specs.declared.class.Class.the-variants.{Printable}
 use Rattle.chars.specs.Parts.{isParted}
@@ -77,7 +77,7 @@ module _ (p : ℕ → Bool) where
       ∙ all-order (nonEmpty s) (eqb (first s) 32) (all (λ x. eqb x 32 || p x) s) (not (adjacent s)) (not (eqb (last s) 32))
 
 space-printable : isPrintable 32 ≡ true
-unfolding isPrintable between isLetter isDigit bytes member
+unfolding isPrintable
 space-printable = refl
 
 printable-or-space : (x : ℕ) → isPrintable x ≡ eqb x 32 || isPrintable x
