@@ -45,6 +45,7 @@ enum Coding {
     Number,
 }
 
+// A character's way of being coded.
 fn coding_of(b: u8) -> Coding
     ensures { λ r. ⌜ spelled b r ≡ codeChar b ⌝ }
 {

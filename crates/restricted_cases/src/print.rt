@@ -3,25 +3,6 @@ use libc::STDOUT_FILENO;
 use restricted::convert::RestrictedWritten;
 use restricted::convert::restricted_number;
 
-const DIGITS: [u8; 16] = [
-    48,
-    49,
-    50,
-    51,
-    52,
-    53,
-    54,
-    55,
-    56,
-    57,
-    97,
-    98,
-    99,
-    100,
-    101,
-    102,
-];
-
 fn say(s: &[u8]) {
     io::write_all(STDOUT_FILENO, s);
 }
@@ -32,7 +13,8 @@ fn say_number(n: usize) {
 
 // A byte as two hexadecimal digits.
 fn say_byte(b: u8) {
-    let text = [DIGITS[(b / 16) as usize], DIGITS[(b % 16) as usize]];
+    let digits = b"0123456789abcdef";
+    let text = [digits[(b / 16) as usize], digits[(b % 16) as usize]];
     say(&text);
 }
 

@@ -22,12 +22,12 @@ char-coded : (b : ℕ) → isChar b ≡ true → all isCodedChar (codeChar b) �
 unfolding all isCodedChar codeChar numbered isPlain isChar isControl isSpecial letterOf letterIn short bytes member
 char-coded = at-char (λ b. all isCodedChar (codeChar b)) (λ b. true) tt
 
-pub coded-chars : (s : List ℕ) → all isChar s ≡ true → all isCodedChar (coded s) ≡ true
+pub coded-plain : (s : List ℕ) → all isChar s ≡ true → all isCodedChar (coded s) ≡ true
 unfolding all coded
-coded-chars [] h = refl
-coded-chars (b ∷ s) h =
+coded-plain [] h = refl
+coded-plain (b ∷ s) h =
     rw (all-append isCodedChar (codeChar b) (coded s))
-    (and-both (char-coded b (and-left (isChar b) (all isChar s) h)) (coded-chars s (and-right (isChar b) (all isChar s) h)))
+    (and-both (char-coded b (and-left (isChar b) (all isChar s) h)) (coded-plain s (and-right (isChar b) (all isChar s) h)))
 
 -- ---- atoms
 
