@@ -1,0 +1,4 @@
+pub mod Answers
+pub mod Atoms
+pub mod Code
+pub mod Convert

@@ -1,0 +1,51 @@
+// One case: a text coded, or read back, in a buffer of a length.
+use crate::print::print_case;
+use crate::read::number;
+use crate::read::unhex;
+use restricted::convert::RestrictedWritten;
+use restricted::convert::restrict;
+use restricted::convert::unrestrict;
+ghost use Prim.Native.Nat.{_≤_};
+
+// Room for the longest text, and for the longest buffer.
+const TEXT: usize = 2048;
+
+const ROOM: usize = 9999;
+
+// What a buffer is filled with: a byte that no answer has.
+const FILLED: u8 = 255;
+
+// The letter E codes the text, and D reads it back.
+fn convert(tag: u8, text: &[u8], out: &mut [u8]) -> RestrictedWritten {
+    if tag == b'E' {
+        return restrict(text, out);
+    }
+    unrestrict(text, out)
+}
+
+fn run_into(tag: u8, text: &[u8], out: &mut [u8]) {
+    let done = convert(tag, text, out);
+    print_case(done, out, FILLED);
+}
+
+// A case in a buffer of n bytes.
+fn run_case(tag: u8, text: &[u8], n: usize)
+    requires { ⌜ n ≤ 9999 ⌝ }
+{
+    let mut out = [FILLED; ROOM];
+    run_into(tag, text, &mut out[..n]);
+}
+
+// A line's letter, the digits behind it, and the text in hexadecimal.
+fn run_spelt(tag: u8, digits: &[u8], spelt: &[u8]) {
+    let mut text = [0u8; TEXT];
+    let n = unhex(&mut text, spelt);
+    run_case(tag, &text[..n], number(digits));
+}
+
+pub(crate) fn run_line(line: &[u8]) {
+    if line.len() < 7 {
+        return;
+    }
+    run_spelt(line[0], &line[2..6], &line[7..]);
+}

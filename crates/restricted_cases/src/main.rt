@@ -1,0 +1,42 @@
+// Runs both ways of restricted on the cases in stdin. The cases and what must be printed are made by tests/restricted_cases.py, which
+// follows request 9 by itself and runs nothing of the library.
+//
+// Standard input is lines, each a letter, a space, the length of the buffer in four decimal digits, a space, and a text in hexadecimal,
+// since a text may have any byte:
+//   E 0005 TEXT    the text coded
+//   D 0005 TEXT    the text read back
+// Printed of each: the number, the length that is told, the front of the buffer of that length in hexadecimal, and whether the rest of the
+// buffer is as before (`=`) or not (`!`), one space apart.
+mod case;
+mod print;
+mod read;
+
+use case::run_line;
+ghost use Prim.Native.Nat.{_<_, _≤_};
+ghost use lib.ListN.{length};
+
+// Standard input, at most.
+const ROOM: usize = 262144;
+
+// Where the line that starts at a place ends.
+fn line_end(s: &[u8], from: usize) -> usize
+    requires { ⌜ from < length (now s) ⌝ }
+    ensures { λ r. ⌜ (from ≤ r) × (r ≤ length (now (s .entry))) ⌝ }
+{
+    chars::parts::part_end(s, from, b'\n')
+}
+
+fn run(s: &[u8]) {
+    let mut from = 0;
+    while from < s.len() {
+        let end = line_end(s, from);
+        run_line(&s[from..end]);
+        from = end + 1;
+    }
+}
+
+fn main() {
+    let mut space = [0u8; ROOM];
+    let n = io::read_full(libc::STDIN_FILENO, &mut space);
+    run(&space[..n]);
+}
