@@ -38,7 +38,7 @@ pub enum Closing {
 }
 
 // Bytes 32 to 126, which a quoted string has.
-fn is_quoted_byte(b: u8) -> bool
+pub fn is_quoted_byte(b: u8) -> bool
     ensures { λ r. ⌜ r ≡ isText b ⌝ }
 {
     if b < b' ' {
@@ -174,7 +174,7 @@ pub fn is_readable(s: &[u8]) -> bool
 }
 
 // Whether a backslash goes before the byte.
-fn needs_backslash(b: u8) -> bool
+pub fn needs_backslash(b: u8) -> bool
     ensures { λ r. ⌜ r ≡ (eqb b 34 || eqb b 92) ⌝ }
 {
     if b == b'"' {
@@ -198,7 +198,7 @@ fn put_byte(dst: &mut [u8], at: usize, b: u8) -> usize
 }
 
 // Writes a text with a backslash before each quote and backslash.
-fn put_escaped(dst: &mut [u8], at: usize, s: &[u8]) -> usize
+pub fn put_escaped(dst: &mut [u8], at: usize, s: &[u8]) -> usize
     requires { ⌜ at + length (escaped (now s)) ≤ length (now dst) ⌝ }
     ensures { λ r. ⌜ Wrote (now (dst .entry)) at (escaped (now (s .entry))) r (now (dst .exit)) ⌝ }
 {

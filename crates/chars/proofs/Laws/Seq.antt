@@ -3,13 +3,13 @@
 use mathlib.Core.Path.{_≡_, refl, sym, ap, _∙_}
 use mathlib.Core.Bool.{true, false}
 use mathlib.Core.List.{List, [], _∷_, _++_, map}
-use Prim.Native.Nat.{ℕ, zero, suc, _≤_, _<_, min}
+use Prim.Native.Nat.{ℕ, zero, suc, _+_, _≤_, _<_, min}
 use native.Mathlib.Nat.{le-of-suc-le-suc, not-suc-le-zero, zero-lt-suc}
 use native.Mathlib.Omega.{arith}
 use borrow.Author.Tests.{lt-ltb, ltb-false, ltb-true}
 use lib.Dec.{ltb}
 use lib.ListN.{length, drop, getD, take, set, length-take, List·getD-eq-default, List·getD-map}
-use lib.Seq.{getD-take}
+use lib.Seq.{drop-drop, getD-drop, getD-take}
 use Rattle.chars.specs.Lists.{nonEmpty}
 use Rattle.chars.proofs.Laws.Lists.{by-test}
 
@@ -86,3 +86,14 @@ byte-inside s i h =
 -- how much of its room a text takes
 pub length-view : {A : Type 0} (n : ℕ) (b : List A) (room : ℕ) → length b ≡ room → length (take n b) ≡ min n room
 length-view n b room e = length-take n b ∙ ap (min n) e
+
+-- what stands behind a place: the next byte, the one behind it, and the text behind the next byte
+module _ (s : List ℕ) (i : ℕ) where
+  pub second : getD (drop (suc i) s) 0 0 ≡ getD s (i + 1) 0
+  second = let q : suc i + 0 ≡ i + 1 = omega arith in getD-drop (suc i) s 0 0 ∙ rw q
+
+  pub third : getD (drop (suc i) s) 1 0 ≡ getD s (i + 2) 0
+  third = let q : suc i + 1 ≡ i + 2 = omega arith in getD-drop (suc i) s 1 0 ∙ rw q
+
+  pub beyond : drop 1 (drop (suc i) s) ≡ drop (i + 2) s
+  beyond = let q : suc i + 1 ≡ i + 2 = omega arith in drop-drop 1 (suc i) s ∙ rw q

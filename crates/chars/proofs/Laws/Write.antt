@@ -7,7 +7,7 @@ use native.Mathlib.Numerals.{add-one}
 use native.Mathlib.Omega.{arith}
 use mathlib.Core.List.{List, [], _∷_, _++_}
 use lib.ListN.{length, take, drop, set, getD, length-append, length-drop}
-use lib.Seq.{sets, sets-eq, length-sets, take-append-seam, drop-append-seam, drop-cons}
+use lib.Seq.{sets, sets-eq, length-sets, take-append-seam, take-at, length-take-le, drop-append-seam, drop-cons}
 use Rattle.chars.specs.Write.{Wrote, front}
 
 -- two runs of stores, one after the other
@@ -45,6 +45,12 @@ wrote-place {o} {n} {t} {i} w h = w .holds ∙ sets-eq t o i h
 pub wrote-front : {o n t : List ℕ} {j : ℕ} → Wrote o 0 t j n → length t ≤ length o → n ≡ front t o
 unfolding front
 wrote-front {o} {n} {t} w h = wrote-place w (omega arith) ∙ rw zero-add
+
+-- what stands in front of the next text: what stood in front of this one, and this one
+pub wrote-take : {o n t : List ℕ} {i j : ℕ} → Wrote o i t j n → i + length t ≤ length o → take j n ≡ take i o ++ t
+wrote-take {o} {n} {t} {i} {j} w h =
+    let e : length (take i o ++ t) ≡ j = simp length-append (omega (arith, length-take-le i o (omega arith), w .moved)) in
+    ap (take j) (wrote-place w h) ∙ take-at (take i o ++ t) (drop (i + length t) o) j e
 
 pub length-front : (t o : List ℕ) → length t ≤ length o → length (front t o) ≡ length o
 unfolding front

@@ -16,12 +16,13 @@ use Rattle.chars.specs.Lists.{all}
 use Rattle.chars.specs.Class.{between}
 use Rattle.chars.specs.Write.{Wrote}
 use Rattle.chars.proofs.Laws.Lists.{and-left, and-right, by-test, true-not-false}
+use Rattle.chars.proofs.Laws.Seq.{beyond, second}
 use Rattle.chars.proofs.Laws.Write.{sets-append}
 use Rattle.mailaddr.specs.Shape.{closing, escaped, inner, isText, more, unescaped}
 
 -- ---- how far a quoted string goes
 
-more-more : (m n : ℕ) (o : Option ℕ) → more m (more n o) ≡ more (m + n) o
+pub more-more : (m n : ℕ) (o : Option ℕ) → more m (more n o) ≡ more (m + n) o
 unfolding more
 more-more m n none = refl
 more-more m n (some k) = let e : m + (n + k) ≡ m + n + k = omega arith in rw e
@@ -45,12 +46,6 @@ close-text x (y ∷ t) e f = rw (e, f)
 
 -- the same of what is left of a text from a place on
 module _ (s : List ℕ) (i : ℕ) where
-  next-byte : getD (drop (suc i) s) 0 0 ≡ getD s (i + 1) 0
-  next-byte = let e : suc i + 0 ≡ i + 1 = omega arith in getD-drop (suc i) s 0 0 ∙ rw e
-
-  next-but-one : drop 1 (drop (suc i) s) ≡ drop (i + 2) s
-  next-but-one = let e : suc i + 1 ≡ i + 2 = omega arith in drop-drop 1 (suc i) s ∙ rw e
-
   pub at-quote : i < length s → eqb (getD s i 0) 34 ≡ true → more i (closing (drop i s)) ≡ some (i + 1)
   unfolding more
   at-quote h e = rw (drop-cons s i 0 h, close-quote (getD s i 0) (drop (suc i) s) e)
@@ -67,13 +62,13 @@ module _ (s : List ℕ) (i : ℕ) where
   pub at-escape : i < length s → eqb (getD s i 0) 34 ≡ false → eqb (getD s i 0) 92 ≡ true → isText (getD s (i + 1) 0) ≡ true
       → more i (closing (drop i s)) ≡ more (i + 2) (closing (drop (i + 2) s))
   at-escape h e f g =
-      rw (drop-cons s i 0 h, close-escape (getD s i 0) (drop (suc i) s) e f, next-byte, g, next-but-one)
+      rw (drop-cons s i 0 h, close-escape (getD s i 0) (drop (suc i) s) e f, second s i, g, beyond s i)
       (more-more i 2 (closing (drop (i + 2) s)))
 
   pub at-broken : i < length s → eqb (getD s i 0) 34 ≡ false → eqb (getD s i 0) 92 ≡ true → isText (getD s (i + 1) 0) ≡ false
       → more i (closing (drop i s)) ≡ none
   unfolding more
-  at-broken h e f g = rw (drop-cons s i 0 h, close-escape (getD s i 0) (drop (suc i) s) e f, next-byte, g)
+  at-broken h e f g = rw (drop-cons s i 0 h, close-escape (getD s i 0) (drop (suc i) s) e f, second s i, g)
 
   pub at-end : length s ≤ i → more i (closing (drop i s)) ≡ none
   unfolding more closing
@@ -162,11 +157,11 @@ closes (x ∷ y ∷ s) n h =
 -- ---- escaped and unescaped
 
 -- both tests of a byte that needs no backslash
-neither : (a b : Bool) → (a || b) ≡ false → (a ≡ false) × (b ≡ false)
+pub neither : (a b : Bool) → (a || b) ≡ false → (a ≡ false) × (b ≡ false)
 neither true b h = (h, true-not-false true refl h)
 neither false b h = (refl, h)
 
-unescaped-plain : (x : ℕ) (t : List ℕ) → eqb x 92 ≡ false → unescaped (x ∷ t) ≡ x ∷ unescaped t
+pub unescaped-plain : (x : ℕ) (t : List ℕ) → eqb x 92 ≡ false → unescaped (x ∷ t) ≡ x ∷ unescaped t
 unfolding unescaped
 unescaped-plain x [] e = refl
 unescaped-plain x (y ∷ t) e = rw e
@@ -192,10 +187,14 @@ escaped-close (x ∷ u) h =
     let p = neither (eqb x 34) (eqb x 92) e in
     rw (e, close-text x (escaped u ++ 34 ∷ []) (p .0) (p .1), g, k, q))
 
--- a byte at a time
-pub escaped-cons : (x : ℕ) (s : List ℕ) → escaped (x ∷ s) ≡ escaped (x ∷ []) ++ escaped s
+-- two texts in a row, and a byte at a time
+pub escaped-append : (s t : List ℕ) → escaped (s ++ t) ≡ escaped s ++ escaped t
 unfolding escaped
-escaped-cons x s = by-test (eqb x 34 || eqb x 92) (λ e. rw e) (λ e. rw e)
+escaped-append [] t = refl
+escaped-append (x ∷ s) t = by-test (eqb x 34 || eqb x 92) (λ e. rw (e, escaped-append s t)) (λ e. rw (e, escaped-append s t))
+
+pub escaped-cons : (x : ℕ) (s : List ℕ) → escaped (x ∷ s) ≡ escaped (x ∷ []) ++ escaped s
+escaped-cons x s = escaped-append (x ∷ []) s
 
 pub escaped-step : (s : List ℕ) (i : ℕ) → i < length s → escaped (drop i s) ≡ escaped (getD s i 0 ∷ []) ++ escaped (drop (i + 1) s)
 escaped-step s i h = rw (add-one, drop-cons s i 0 h) (escaped-cons (getD s i 0) (drop (suc i) s))
@@ -214,6 +213,11 @@ pub length-escaped : (s : List ℕ) → length (escaped s) ≤ 2 * length s
 unfolding escaped
 length-escaped [] = omega arith
 length-escaped (x ∷ s) = by-test (eqb x 34 || eqb x 92) (λ e. rw e (omega (arith, length-escaped s))) (λ e. rw e (omega (arith, length-escaped s)))
+
+pub escaped-longer : (s : List ℕ) → length s ≤ length (escaped s)
+unfolding escaped
+escaped-longer [] = omega arith
+escaped-longer (x ∷ s) = by-test (eqb x 34 || eqb x 92) (λ e. rw e (omega (arith, escaped-longer s))) (λ e. rw e (omega (arith, escaped-longer s)))
 
 -- a text with no quote and no backslash is as it was
 pub escaped-plain : (s : List ℕ) → all (λ x. not (eqb x 34 || eqb x 92)) s ≡ true → escaped s ≡ s

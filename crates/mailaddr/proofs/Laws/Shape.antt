@@ -230,18 +230,22 @@ pub quoted-other : (u : List ℕ) → isAtoms u ≡ false → quotedLocal u ≡ 
 unfolding quotedLocal
 quoted-other u h = rw h
 
--- a text of bytes 32 to 126 is a local part when it is quoted
+-- a text of bytes 32 to 126 between quotes
+pub quoted-text : (u : List ℕ) → all isText u ≡ true → Quoted (34 ∷ escaped u ++ (34 ∷ []))
+quoted-text u h =
+    record {
+      inside = escaped u ++ (34 ∷ []);
+      opened = refl;
+      shut = escaped-close u h ∙ ap some (sym (length-append (escaped u) (34 ∷ [])));
+    }
+
+-- such a text is a local part when it is quoted
 pub quoted-local : (u : List ℕ) → all isText u ≡ true → IsLocal (not (isAtoms u)) (quotedLocal u)
 unfolding IsLocal
 quoted-local u h =
     by-test (isAtoms u)
     (λ e. rw (quoted-atoms u e, e) e)
-    (λ e. rw (quoted-other u e, e)
-    (record {
-      inside = escaped u ++ (34 ∷ []);
-      opened = refl;
-      shut = escaped-close u h ∙ ap some (sym (length-append (escaped u) (34 ∷ [])));
-    }))
+    (λ e. rw (quoted-other u e, e) (quoted-text u h))
 
 pub quote-shape : (u d : List ℕ) → all isText u ≡ true → isAtoms d ≡ true
     → shapeOf (addressText u d) ≡ some (record { local = quotedLocal u; isQuoted = not (isAtoms u); domain = d })
@@ -252,12 +256,16 @@ inner-quoted : (t : List ℕ) → inner (34 ∷ t ++ (34 ∷ [])) ≡ t
 unfolding inner
 inner-quoted t = take-at t (34 ∷ []) (suc (length (t ++ (34 ∷ []))) - 2) (simp length-append (omega arith))
 
+-- what stands between the quotes means the text
+pub unquoted-text : (u : List ℕ) → unescaped (inner (34 ∷ escaped u ++ (34 ∷ []))) ≡ u
+unquoted-text u = rw (inner-quoted (escaped u)) (unescape-escape u)
+
 pub quote-unquote : (u d : List ℕ) → unquotedLocal (record { local = quotedLocal u; isQuoted = not (isAtoms u); domain = d }) ≡ u
 unfolding unquotedLocal
 quote-unquote u d =
     by-test (isAtoms u)
     (λ e. rw (quoted-atoms u e, e))
-    (λ e. rw (quoted-other u e, e, inner-quoted (escaped u)) (unescape-escape u))
+    (λ e. rw (quoted-other u e, e) (unquoted-text u))
 
 pub length-quoted : (u : List ℕ) → length (quotedLocal u) ≤ 2 * length u + 2
 length-quoted u =

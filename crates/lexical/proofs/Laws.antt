@@ -1,0 +1,10 @@
+pub mod AddressNesting
+pub mod AddressTokens
+pub mod Closing
+pub mod Comment
+pub mod Depth
+pub mod Line
+pub mod Nesting
+pub mod Quoted
+pub mod QuotedText
+pub mod Tokens

@@ -1,0 +1,12 @@
+pub mod Address
+pub mod AddressSame
+pub mod AddressWords
+pub mod Bare
+pub mod Depth
+pub mod Dotted
+pub mod Grammar
+pub mod Lexeme
+pub mod Route
+pub mod Spec
+pub mod Words
+pub mod Written
