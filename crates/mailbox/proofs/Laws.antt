@@ -1,6 +1,7 @@
 pub mod Address
 pub mod AddressSame
 pub mod AddressWords
+pub mod Again
 pub mod Bare
 pub mod Depth
 pub mod Dotted

@@ -3,13 +3,13 @@
 use mathlib.Core.Path.{_≡_, refl, sym, ap, _∙_}
 use mathlib.Core.Bool.{true, false}
 use mathlib.Core.List.{List, [], _∷_, _++_, map}
-use Prim.Native.Nat.{ℕ, zero, suc, _+_, _≤_, _<_, min}
+use Prim.Native.Nat.{ℕ, zero, suc, _+_, _-_, _≤_, _<_, min}
 use native.Mathlib.Nat.{le-of-suc-le-suc, not-suc-le-zero, zero-lt-suc}
 use native.Mathlib.Omega.{arith}
 use borrow.Author.Tests.{lt-ltb, ltb-false, ltb-true}
 use lib.Dec.{ltb}
 use lib.ListN.{length, drop, getD, take, set, length-take, List·getD-eq-default, List·getD-map}
-use lib.Seq.{drop-drop, getD-drop, getD-take}
+use lib.Seq.{drop-drop, getD-drop, getD-take, take-nil}
 use Rattle.chars.specs.Lists.{nonEmpty}
 use Rattle.chars.proofs.Laws.Lists.{by-test}
 
@@ -19,6 +19,16 @@ module _ {A : Type 0} where
   getD-any [] k d e h = absurd (not-suc-le-zero h)
   getD-any (x ∷ l) zero d e h = refl
   getD-any (x ∷ l) (suc k) d e h = getD-any l k d e (le-of-suc-le-suc h)
+
+  pub take-same : (i j : ℕ) (s : List A) → i ≡ j → take i s ≡ take j s
+  take-same i j s e = ap (λ k. take k s) e
+
+  -- what is left of a front
+  pub drop-take : (i j : ℕ) (s : List A) → drop i (take j s) ≡ take (j - i) (drop i s)
+  drop-take zero j s = take-same j (j - 0) s (omega arith)
+  drop-take (suc i) zero s = take-same 0 (0 - suc i) (drop (suc i) s) (omega arith)
+  drop-take (suc i) (suc j) [] = sym (take-nil (suc j - suc i))
+  drop-take (suc i) (suc j) (x ∷ s) = drop-take i j s ∙ take-same (j - i) (suc j - suc i) (drop i s) (omega arith)
 
   -- a part of a room is taken again by its own length
   take-own : (n : ℕ) (l : List A) → take (length (take n l)) l ≡ take n l

@@ -16,7 +16,7 @@ use Rattle.chars.specs.Lists.{all}
 use Rattle.chars.specs.Class.{between}
 use Rattle.chars.specs.Write.{Wrote}
 use Rattle.chars.proofs.Laws.Lists.{and-left, and-right, by-test, true-not-false}
-use Rattle.chars.proofs.Laws.Seq.{beyond, second}
+use Rattle.chars.proofs.Laws.Seq.{beyond, drop-take, second}
 use Rattle.chars.proofs.Laws.Write.{sets-append}
 use Rattle.mailaddr.specs.Shape.{closing, escaped, inner, isText, more, unescaped}
 
@@ -247,16 +247,12 @@ module _ (s : List ℕ) (i : ℕ) (h : i < length s) where
       (omega arith, omega arith, rw (p, add-one, drop-cons s i 0 h, unescaped-plain (getD s i 0) (drop (suc i) s) e)))
 
 -- what stands between the quotes, by places
-drop-take : (s : List ℕ) (n : ℕ) → drop 1 (take (suc n) s) ≡ take n (drop 1 s)
-drop-take [] n = sym (take-nil n)
-drop-take (x ∷ s) n = refl
-
 pub inner-at : (s : List ℕ) (n : ℕ) → 2 ≤ n → n ≤ length s → inner (take n s) ≡ take (n - 1 - 1) (drop 1 s)
 unfolding inner
 inner-at s zero h k = absurd (omega arith)
 inner-at s (suc m) h k =
     let q : suc m - 2 ≡ suc m - 1 - 1 = omega arith in
-    rw (length-take-le (suc m) s k, drop-take s m, q) (take-take (suc m - 1 - 1) m (drop 1 s) (omega arith))
+    rw (length-take-le (suc m) s k, drop-take 1 (suc m) s, q) (take-take (suc m - 1 - 1) (suc m - 1) (drop 1 s) (omega arith))
 
 pub inner-none : (s : List ℕ) (n : ℕ) → n < 2 → n ≤ length s → inner (take n s) ≡ []
 unfolding inner

@@ -9,9 +9,9 @@ use native.Mathlib.Omega.{arith}
 use borrow.Author.Tests.{le-ltb, lt-ltb}
 use lib.Dec.{ltb}
 use lib.ListN.{length, take, drop, length-append}
-use lib.Seq.{drop-at, length-take-le, take-add}
 use Rattle.chars.specs.Write.{Wrote, front, placedText, refusedText}
 use Rattle.chars.proofs.Laws.Lists.{by-test}
+use Rattle.chars.proofs.Laws.Seq.{drop-take}
 use Rattle.chars.proofs.Laws.Write.{wrote-front}
 use Rattle.mailaddr.specs.Shape.{escaped}
 use Rattle.mailaddr.proofs.Laws.Closing.{length-escaped}
@@ -89,13 +89,6 @@ module _ (b : Bare) (old : List ℕ) where
 
 -- ---- what was read, by places in the buffer of words
 
-drop-take : (i j : ℕ) (s : List ℕ) → i ≤ j → j ≤ length s → drop i (take j s) ≡ take (j - i) (drop i s)
-drop-take i j s h k =
-    let e : j ≡ i + (j - i) = omega arith in
-    ap (λ (n : ℕ). drop i (take n s)) e
-    ∙ ap (drop i) (take-add i (j - i) s)
-    ∙ drop-at (take i s) (take (j - i) (drop i s)) i (length-take-le i s (omega arith))
-
 -- the mailbox whose texts stand there
 abbrev pub bareAt : MailboxRead → List ℕ → Bare
 bareAt m words = record {
@@ -108,7 +101,7 @@ bareAt m words = record {
 pub told-found : (m : MailboxRead) (words : List ℕ) → m .found ≡ true → m .local ≤ m .size → m .size ≤ length words
     → toldMailbox m words ≡ some (bareAt m words)
 unfolding toldMailbox
-told-found m words f h k = rw (f, drop-take (m .local) (m .size) words h k)
+told-found m words f h k = rw (f, drop-take (m .local) (m .size) words)
 
 pub told-none : (m : MailboxRead) (words : List ℕ) → m .found ≡ false → toldMailbox m words ≡ none
 unfolding toldMailbox

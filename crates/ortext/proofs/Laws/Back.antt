@@ -11,7 +11,7 @@ use borrow.Author.Tests.{eq-eqb, leb-true, leb-false, ltb-true, not-true}
 use lib.Dec.{leb}
 use lib.ListN.{length, getD, take, drop, replicate, length-drop, length-replicate, length-take, take-append-drop, drop-of-length-le, getD-replicate, List·getD-eq-default}
 use lib.Seq.{drop-cons, drop-nil, take-append-le, take-nil, take-take, drop-at, length-take-le}
-use Rattle.chars.proofs.Laws.Seq.{absent-is}
+use Rattle.chars.proofs.Laws.Seq.{absent-is, drop-take, take-same}
 use Rattle.chars.specs.Lists.{all, nonEmpty}
 use Rattle.chars.specs.Case.{agree, sameText}
 use Rattle.chars.proofs.Laws.Lists.{all-drop, and-both, and-left, and-right, and-three, by-test, true-not-false}
@@ -108,20 +108,11 @@ unfolding agree
 settled-none a = record { made = made-empty; count = refl; few = omega arith; reach = omega arith; same = refl; shows = view-empty }
 
 module _ {A : Type 0} where
-  take-same : (i j : ℕ) (s : List A) → i ≡ j → take i s ≡ take j s
-  take-same i j s e = ap (λ k. take k s) e
-
   take-min : (i j : ℕ) (s : List A) → take i (take j s) ≡ take (min i j) s
   take-min zero j s = take-same 0 (min 0 j) s (omega arith)
   take-min (suc i) zero s = take-same 0 (min (suc i) 0) s (omega arith)
   take-min (suc i) (suc j) [] = sym (take-nil (min (suc i) (suc j)))
   take-min (suc i) (suc j) (x ∷ s) = ap (λ t. x ∷ t) (take-min i j s) ∙ take-same (suc (min i j)) (min (suc i) (suc j)) (x ∷ s) (omega arith)
-
-  drop-take : (i j : ℕ) (s : List A) → drop i (take j s) ≡ take (j - i) (drop i s)
-  drop-take zero j s = take-same j (j - 0) s (omega arith)
-  drop-take (suc i) zero s = take-same 0 (0 - suc i) (drop (suc i) s) (omega arith)
-  drop-take (suc i) (suc j) [] = sym (take-nil (suc j - suc i))
-  drop-take (suc i) (suc j) (x ∷ s) = drop-take i j s ∙ take-same (j - i) (suc j - suc i) (drop i s) (omega arith)
 
 module _ (n : ℕ) (a : Attributes) (l : length (a .single) ≡ 8) where
   own : length (take 4 (a .single)) ≡ 4
