@@ -3,7 +3,7 @@
 use mathlib.Core.Option.{Option, none, some}
 use mathlib.Core.List.{List}
 use Prim.Native.Nat.{ℕ}
-use Rattle.dates.specs.Convert.{DateResult}
+use Rattle.chars.specs.Write.{TextResult}
 use Rattle.dates.specs.declared.convert.DateAnswer.{DateAnswer}
 use Rattle.dates.specs.declared.convert.DateAnswer.the-variants.{Done, NoDate as NoDateAnswer, ShortBuffer}
 use Rattle.dates.specs.declared.convert.DateWritten.{DateWritten}
@@ -21,5 +21,5 @@ dateNumber Done = 0
 dateNumber NoDateAnswer = 10
 dateNumber ShortBuffer = 6
 
-abbrev pub told : DateWritten → List ℕ → DateResult
+abbrev pub told : DateWritten → List ℕ → TextResult
 told r new = record { number = dateNumber (r .answer); size = r .size; buffer = new }

@@ -9,8 +9,9 @@ use crate::write::write_utc;
 use chars::write::put;
 ghost use mathlib.Core.Path.{_≡_};
 ghost use mathlib.Core.Bool.{true};
+ghost use Rattle.chars.specs.Write.{placedText};
 ghost use Rattle.dates.specs.Answers.{dateNumber, told};
-ghost use Rattle.dates.specs.Convert.{dateToUtc, placed, utcToDate};
+ghost use Rattle.dates.specs.Convert.{dateToUtc, utcToDate};
 ghost use Rattle.dates.specs.declared.convert.DateAnswer.the-variants.{NoDate};
 ghost use Rattle.dates.specs.Date.{isDate};
 ghost use Rattle.dates.specs.Write.{dateText, utcText};
@@ -50,7 +51,7 @@ fn no_date() -> DateWritten
 
 // Copies a text out, if it fits.
 fn place(out: &mut [u8], s: &[u8]) -> DateWritten
-    ensures { λ r. ⌜ told r (now (out .exit)) ≡ placed (now (s .entry)) (now (out .entry)) ⌝ }
+    ensures { λ r. ⌜ told r (now (out .exit)) ≡ placedText (now (s .entry)) (now (out .entry)) ⌝ }
 {
     if out.len() < s.len() {
         return DateWritten {
@@ -68,7 +69,7 @@ fn place(out: &mut [u8], s: &[u8]) -> DateWritten
 // Writes a date as a date-time.
 fn as_date(d: DateTime, out: &mut [u8]) -> DateWritten
     requires { ⌜ isDate d ≡ true ⌝ }
-    ensures { λ r. ⌜ told r (now (out .exit)) ≡ placed (dateText d) (now (out .entry)) ⌝ }
+    ensures { λ r. ⌜ told r (now (out .exit)) ≡ placedText (dateText d) (now (out .entry)) ⌝ }
 {
     let mut text = [0u8; DATE_ROOM];
     let n = write_date(&mut text, d);
@@ -78,7 +79,7 @@ fn as_date(d: DateTime, out: &mut [u8]) -> DateWritten
 // Writes a date as a UTCTime.
 fn as_utc(d: DateTime, out: &mut [u8]) -> DateWritten
     requires { ⌜ isDate d ≡ true ⌝ }
-    ensures { λ r. ⌜ told r (now (out .exit)) ≡ placed (utcText d) (now (out .entry)) ⌝ }
+    ensures { λ r. ⌜ told r (now (out .exit)) ≡ placedText (utcText d) (now (out .entry)) ⌝ }
 {
     let mut text = [0u8; DATE_ROOM];
     let n = write_utc(&mut text, d);

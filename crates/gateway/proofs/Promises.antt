@@ -2,16 +2,17 @@
 -- Assumes nothing.
 use mathlib.Core.Path.{_≡_, refl, sym, ap, subst, _∙_}
 use mathlib.Core.Logic.{_⊎_, inl, inr}
-use mathlib.Core.Bool.{true, false}
+use mathlib.Core.Bool.{true, false, cond}
 use mathlib.Core.List.{List, [], _∷_}
 use mathlib.Core.Option.{Option, none, some}
-use Prim.Native.Nat.{ℕ, _≤_, _<_}
+use Prim.Native.Nat.{ℕ, _/_, _%_, _≤_, _<_}
+use native.Mathlib.Nat.{add-mul-mod-self-left, mod-eq-of-lt}
 use native.Mathlib.Omega.{arith}
 use borrow.Author.Tests.{eqb-true, le-ltb, lt-ltb, ltb-false}
 use lib.Dec.{eqb, ltb}
 use lib.ListN.{length}
-use Rattle.chars.specs.Lists.{member}
-use Rattle.chars.specs.Write.{front}
+use Rattle.chars.specs.Lists.{all, member}
+use Rattle.chars.specs.Write.{TextResult, front, placedText, refusedText}
 use Rattle.chars.proofs.Laws.Lists.{by-test, true-not-false}
 use Rattle.chars.proofs.Laws.Write.{drop-front, length-front}
 use Rattle.oraddr.specs.Canonical.{canonicalRecord}
@@ -34,17 +35,21 @@ use Rattle.mapping.proofs.Laws.CarriedBack.{carried-back-text}
 use Rattle.mapping.proofs.Laws.Whole.{returned-canonical}
 use Rattle.soundness.specs.Check.{CheckResult, Demand3}
 use Rattle.soundness.specs.Sound.{Sound}
-use Rattle.dates.specs.Convert as date
-use Rattle.dates.specs.Convert.{dateToUtc, utcToDate}
+use Rattle.dates.specs.Convert.{converted, dateToUtc, utcToDate}
 use Rattle.dates.specs.Read.{readDate, readUtc}
 use Rattle.dates.specs.Write.{dateText, utcText}
 use Rattle.dates.specs.declared.date.DateTime.{DateTime}
 use Rattle.dates.proofs.Laws.Back.{date-back, utc-back}
 use Rattle.dates.proofs.Laws.Convert.{date-date, utc-date}
+use Rattle.restricted.specs.Code.{coded as codedRestricted, decoded as decodedRestricted, isChar}
+use Rattle.restricted.specs.Convert.{restrictText, unrestrictText}
+use Rattle.restricted.proofs.Laws.Atoms.{coded-atoms}
+use Rattle.restricted.proofs.Laws.Back.{decoded-coded, not-coded-decoded}
+use Rattle.restricted.proofs.Laws.Convert.{calls-back}
 use Rattle.router.proofs.Laws.Calls.{call-moves, calls-whole}
 use Rattle.router.proofs.Laws.Line.{loaded-rules}
-use Rattle.gateway.specs.Exports.{addressToText, readingToAddress, textResult, textToAddress, textToAddressBy}
-use Rattle.gateway.specs.Promises.{Accepted, AddressRules, DateLeft, DateWritten, Dates, Demand1, Demand2, Demand3Exactly, EndsBuffer, EndsRecord, Judgement, Promises, RecordRules, Router}
+use Rattle.gateway.specs.Exports.{addressToText, lengthLimit, packedText, readingToAddress, textResult, textToAddress, textToAddressBy}
+use Rattle.gateway.specs.Promises.{Accepted, AddressRules, Dates, Demand1, Demand2, Demand3Exactly, EndsBuffer, EndsRecord, EndsText, Judgement, Packing, Promises, RecordRules, Restricted, Router}
 use Rattle.gateway.specs.Texts.{readOutcome, recordOfText, textOfRecord}
 use Rattle.gateway.proofs.Laws.Exports.{not-canonical}
 
@@ -348,34 +353,86 @@ router =
       moves = λ table s old new over last r c k z. call-moves (loaded-rules table) c k z;
     }
 
+-- ---- a text in a lent buffer
+
+module _ (numbers old : List ℕ) where
+  text-left : (n : ℕ) → member n numbers ≡ true → EndsText numbers old (refusedText n old)
+  unfolding refusedText
+  text-left n h = inr (record { number = h; size = refl; buffer = refl })
+
+  text-placed : (s : List ℕ) → member 6 numbers ≡ true → EndsText numbers old (placedText s old)
+  unfolding placedText
+  text-placed s h =
+      by-test (ltb (length old) (length s))
+      (λ e. rw e (text-left 6 h))
+      (λ e.
+      let f : length s ≤ length old = ltb-false (length old) (length s) e in
+      rw e (inl (record { done = refl; fits = f; same = length-front s old f; rest = drop-front s old })))
+
+-- both are read off the one value
+number-back : (o : TextResult) → o .number < 16 → packedText o % 16 ≡ o .number
+number-back o h = add-mul-mod-self-left (o .number) 16 (o .size % lengthLimit) ∙ mod-eq-of-lt h
+
+size-back : (o : TextResult) → o .number < 16 → o .size < lengthLimit → packedText o / 16 ≡ o .size
+size-back o h k = omega (arith, mod-eq-of-lt k)
+
+pub packing : Packing
+packing = record { number = number-back; size = size-back }
+
 -- ---- dates
 
-module _ (old : List ℕ) where
-  date-left : (n : ℕ) → member n (10 ∷ 6 ∷ []) ≡ true → DateWritten old (date.refused n old) ⊎ DateLeft old (date.refused n old)
-  unfolding date.refused
-  date-left n h = inr (record { number = h; size = refl; buffer = refl })
-
-  date-ends : (text : DateTime → List ℕ) (o : Option DateTime) → DateWritten old (date.converted text o old) ⊎ DateLeft old (date.converted text o old)
-  unfolding date.converted date.placed member
-  date-ends text none = date-left 10 refl
-  date-ends text (some d) =
-      by-test (ltb (length old) (length (text d)))
-      (λ e. rw e (date-left 6 refl))
-      (λ e. rw e (inl (record { done = refl; fits = ltb-false (length old) (length (text d)) e; rest = drop-front (text d) old })))
+date-ends : (text : DateTime → List ℕ) (o : Option DateTime) (old : List ℕ) → EndsText (10 ∷ 6 ∷ []) old (converted text o old)
+unfolding converted member
+date-ends text none old = text-left (10 ∷ 6 ∷ []) old 10 refl
+date-ends text (some d) old = text-placed (10 ∷ 6 ∷ []) old (text d) refl
 
 pub dates : Dates
 unfolding utcToDate dateToUtc
 dates =
     record {
-      to-822 = λ s old. date-ends old dateText (readUtc s);
-      to-x400 = λ s old. date-ends old utcText (readDate s);
+      to-822 = λ s old. date-ends dateText (readUtc s) old;
+      to-x400 = λ s old. date-ends utcText (readDate s) old;
       utc-back = utc-back;
       date-back = date-back;
       utc-is = utc-date;
       date-is = date-date;
     }
 
+-- ---- the restricted encoding
+
+chars-ends : (s t old : List ℕ) → EndsText (1 ∷ 6 ∷ []) old (cond (all isChar s) (placedText t old) (refusedText 1 old))
+unfolding member
+chars-ends s t old =
+    by-test (all isChar s)
+    (λ e. rw e (text-placed (1 ∷ 6 ∷ []) old t refl))
+    (λ e. rw e (text-left (1 ∷ 6 ∷ []) old 1 refl))
+
+placed-whole : (s new : List ℕ) → length s ≤ length new → placedText s new ≡ record { number = 0; size = length s; buffer = front s new }
+unfolding placedText
+placed-whole s new h = rw (le-ltb (length new) (length s) h)
+
+pub restricted : Restricted
+unfolding restrictText unrestrictText
+restricted =
+    record {
+      restrict = λ s old. chars-ends s (codedRestricted s) old;
+      unrestrict = λ s old. chars-ends s (decodedRestricted s) old;
+      back = decoded-coded;
+      calls-back = λ s old new h k. calls-back s old new h ∙ placed-whole s new k;
+      not-forth = not-coded-decoded .0;
+      atoms = coded-atoms;
+    }
+
 -- ---- all of it
 
 pub promises : Promises
-promises = record { demand1 = demand1; demand2 = demand2; demand3 = demand3; router = router; dates = dates }
+promises =
+    record {
+      demand1 = demand1;
+      demand2 = demand2;
+      demand3 = demand3;
+      router = router;
+      packing = packing;
+      dates = dates;
+      restricted = restricted;
+    }

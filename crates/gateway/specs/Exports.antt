@@ -4,10 +4,10 @@ use mathlib.Core.Path.{_≡_}
 use mathlib.Core.Logic.{_⊎_}
 use mathlib.Core.Bool.{cond}
 use mathlib.Core.List.{List}
-use Prim.Native.Nat.{ℕ, _+_, _*_}
+use Prim.Native.Nat.{ℕ, _+_, _*_, _%_}
 use lib.Dec.{eqb, ltb}
 use lib.ListN.{length}
-use Rattle.chars.specs.Write.{front}
+use Rattle.chars.specs.Write.{TextResult, front}
 use Rattle.oraddr.specs.View.{emptyRecord, view}
 use Rattle.oraddr.specs.declared.record.Record.{Record}
 use Rattle.ortext.specs.Apply.{Reading, again, read, readText, refused, unread}
@@ -19,7 +19,6 @@ use Rattle.mapping.specs.Results.{AddressResult, RecordResult, malformedAddress
 use Rattle.mapping.specs.ToAddress.{toAddress}
 use Rattle.mapping.specs.ToRecord.{addressToRecord}
 use Rattle.soundness.specs.Sound.{Sound, Witness}
-use Rattle.dates.specs.Convert.{DateResult}
 
 -- the number, and 16 times the length that was written, or with 7 the line
 unfoldable pub packed : AddressResult → ℕ
@@ -93,12 +92,17 @@ abbrev pub ExportedCheck : Loaded → List ℕ → ℕ → List ℕ → Type 0
 ExportedCheck (malformed n) old r new = TellsMalformed n old r new
 ExportedCheck (wellFormed t) old r new = TellsSound t old r new ⊎ TellsWitness t old r new
 
--- ---- dates
+-- ---- a text in a buffer: dates, and the restricted encoding
+
+-- 2 to the power 60. A number and 16 times a length below it fit in one value; and no buffer has so many bytes, since an address of the machine
+-- has 57 bits at most
+abbrev pub lengthLimit : ℕ
+lengthLimit = 1152921504606846976
 
 -- the number, and 16 times the length that was written
-unfoldable pub packedDate : DateResult → ℕ
-packedDate o = o .number + 16 * o .size
+abbrev pub packedText : TextResult → ℕ
+packedText o = o .number + 16 * (o .size % lengthLimit)
 
-pub record ExportedDate (o : DateResult) (r : ℕ) (new : List ℕ) : Type 0 where
-  pub value : r ≡ packedDate o
+pub record ExportedText (o : TextResult) (r : ℕ) (new : List ℕ) : Type 0 where
+  pub value : r ≡ packedText o
   pub buffer : new ≡ o .buffer

@@ -1,16 +1,18 @@
 -- The page that a reader must believe: what Lesogrom promises, over the definitions that the contracts of `src/entry.rt` cite.
--- Each entry point's result is an equation to one of them (`addressToRecord`, `recordToAddress`, `recordOfText`, `textOfRecord`, `sharedTail`),
--- or says `Demand3` or `Routing` of it. `proofs/Promises.antt` proves every statement of this page.
+-- Each entry point's result is an equation to one of them (`addressToRecord`, `recordToAddress`, `recordOfText`, `textOfRecord`, `sharedTail`,
+-- `utcToDate`, `dateToUtc`, `restrictText`, `unrestrictText`), or says `Demand3` or `Routing` of it. `proofs/Promises.antt` proves every statement
+-- of this page.
 -- Assumes nothing.
 use mathlib.Core.Path.{_≡_}
 use mathlib.Core.Logic.{_⊎_}
 use mathlib.Core.Bool.{Bool, true, false}
 use mathlib.Core.List.{List, [], _∷_}
 use mathlib.Core.Option.{none, some}
-use Prim.Native.Nat.{ℕ, _≤_, _<_}
-use lib.ListN.{length, drop}
-use Rattle.chars.specs.Lists.{member}
-use Rattle.chars.specs.Write.{front}
+use Prim.Native.Nat.{ℕ, _/_, _%_, _≤_, _<_}
+use lib.ListN.{length, take, drop}
+use Rattle.chars.specs.Lists.{all, bytes, member}
+use Rattle.chars.specs.Parts.{isAtoms}
+use Rattle.chars.specs.Write.{TextResult, front}
 use Rattle.oraddr.specs.Canonical.{canonicalRecord}
 use Rattle.oraddr.specs.View.{emptyRecord, view}
 use Rattle.oraddr.specs.declared.record.Record.{Record}
@@ -25,15 +27,18 @@ use Rattle.mapping.specs.ToAddress.{addressOf, recordToAddress}
 use Rattle.mapping.specs.ToRecord.{addressToRecord, recordIn}
 use Rattle.soundness.specs.Check.{CheckResult, Demand3}
 use Rattle.soundness.specs.Sound.{Sound, Witness}
-use Rattle.dates.specs.Convert.{DateResult, dateToUtc, utcToDate}
+use Rattle.dates.specs.Convert.{dateToUtc, utcToDate}
 use Rattle.dates.specs.Date.{isDate}
 use Rattle.dates.specs.Read.{readDate, readUtc}
 use Rattle.dates.specs.Write.{dateText, utcText}
 use Rattle.dates.specs.declared.date.DateTime.{DateTime}
+use Rattle.restricted.specs.Atoms.{isCodedAtoms}
+use Rattle.restricted.specs.Code.{coded as codedRestricted, decoded as decodedRestricted, isChar}
+use Rattle.restricted.specs.Convert.{restrictText, unrestrictText}
 use Rattle.router.specs.Line.{answerRoom}
 use Rattle.router.specs.Run.{Calls, Routing, Waits, whole}
 use Rattle.router.specs.declared.run.Routed.{Routed}
-use Rattle.gateway.specs.Exports.{addressToText, textToAddress}
+use Rattle.gateway.specs.Exports.{addressToText, lengthLimit, packedText, textToAddress}
 use Rattle.gateway.specs.Texts.{recordOfText, textOfRecord}
 
 -- ---- demand 1: "a result or a numbered refusal; a refusal returns an empty record or length 0 and leaves the lent buffer as it was"
@@ -132,25 +137,50 @@ pub record Router : Type 0 where
   pub moves : (table s old new : List ℕ) (over last : Bool) (r : Routed) → Routing (loadedFrom table) over s last old r new
       → answerRoom ≤ length old → r .taken ≡ 0 → Waits last s
 
--- ---- dates: "Going out to either form and back gives the same date, time and offset. Refusals: 10 .. then 6"
+-- ---- a text in a lent buffer, of the requests that came after: as in demand 1
 
-pub record DateLeft (old : List ℕ) (o : DateResult) : Type 0 where
-  pub number : member (o .number) (10 ∷ 6 ∷ []) ≡ true
+pub record TextWritten (old : List ℕ) (o : TextResult) : Type 0 where
+  pub done : o .number ≡ 0
+  pub fits : o .size ≤ length old
+  pub same : length (o .buffer) ≡ length old
+  pub rest : drop (o .size) (o .buffer) ≡ drop (o .size) old
+
+pub record TextLeft (numbers old : List ℕ) (o : TextResult) : Type 0 where
+  pub number : member (o .number) numbers ≡ true
   pub size : o .size ≡ 0
   pub buffer : o .buffer ≡ old
 
-pub record DateWritten (old : List ℕ) (o : DateResult) : Type 0 where
-  pub done : o .number ≡ 0
-  pub fits : o .size ≤ length old
-  pub rest : drop (o .size) (o .buffer) ≡ drop (o .size) old
+abbrev pub EndsText : List ℕ → List ℕ → TextResult → Type 0
+EndsText numbers old o = TextWritten old o ⊎ TextLeft numbers old o
+
+-- the number and the length are read off the one value that the functions for C return; no buffer has so many bytes as `lengthLimit`
+pub record Packing : Type 0 where
+  pub number : (o : TextResult) → o .number < 16 → packedText o % 16 ≡ o .number
+  pub size : (o : TextResult) → o .number < 16 → o .size < lengthLimit → packedText o / 16 ≡ o .size
+
+-- ---- dates: "Going out to either form and back gives the same date, time and offset. Refusals: 10 .. then 6"
 
 pub record Dates : Type 0 where
-  pub to-822 : (s old : List ℕ) → DateWritten old (utcToDate s old) ⊎ DateLeft old (utcToDate s old)
-  pub to-x400 : (s old : List ℕ) → DateWritten old (dateToUtc s old) ⊎ DateLeft old (dateToUtc s old)
+  pub to-822 : (s old : List ℕ) → EndsText (10 ∷ 6 ∷ []) old (utcToDate s old)
+  pub to-x400 : (s old : List ℕ) → EndsText (10 ∷ 6 ∷ []) old (dateToUtc s old)
   pub utc-back : (d : DateTime) → isDate d ≡ true → readUtc (utcText d) ≡ some d
   pub date-back : (d : DateTime) → isDate d ≡ true → readDate (dateText d) ≡ some d
   pub utc-is : (s : List ℕ) (d : DateTime) → readUtc s ≡ some d → isDate d ≡ true
   pub date-is : (s : List ℕ) (d : DateTime) → readDate s ≡ some d → isDate d ≡ true
+
+-- ---- the restricted encoding: "Text that does not parse as coded is taken as it stands, so only coding and then decoding gives back the start
+-- .. Refusals: 1 for a byte over 127, then 6"
+
+pub record Restricted : Type 0 where
+  pub restrict : (s old : List ℕ) → EndsText (1 ∷ 6 ∷ []) old (restrictText s old)
+  pub unrestrict : (s old : List ℕ) → EndsText (1 ∷ 6 ∷ []) old (unrestrictText s old)
+  pub back : (s : List ℕ) → all isChar s ≡ true → decodedRestricted (codedRestricted s) ≡ s
+  -- by the calls: what one wrote, given to the other with room for the text
+  pub calls-back : (s old new : List ℕ) → restrictText s old .number ≡ 0 → length s ≤ length new
+      → unrestrictText (take (restrictText s old .size) (restrictText s old .buffer)) new ≡ record { number = 0; size = length s; buffer = front s new }
+  -- "only": decoding and then coding does not
+  pub not-forth : codedRestricted (decodedRestricted (bytes "#097#")) ≡ bytes "#097#" → ⊥
+  pub atoms : (s : List ℕ) → all isChar s ≡ true → isAtoms (codedRestricted s) ≡ isCodedAtoms s
 
 -- ---- all of it
 
@@ -159,4 +189,6 @@ pub record Promises : Type 0 where
   pub demand2 : Demand2
   pub demand3 : Demand3Exactly
   pub router : Router
+  pub packing : Packing
   pub dates : Dates
+  pub restricted : Restricted

@@ -14,6 +14,7 @@ use oraddr::record::Record;
 use ortext::read::Answer;
 use ortext::read::read_text;
 use ortext::write::write_text;
+use restricted::convert::RestrictedWritten;
 use router::run::Routed;
 use soundness::check::Checked;
 use table::rows::ROWS_SIZE;
@@ -37,6 +38,8 @@ ghost use Rattle.mapping.specs.ToRecord.{addressToRecord};
 ghost use Rattle.soundness.specs.Check.{Demand3, toldCheck};
 ghost use Rattle.dates.specs.Answers.{told as toldDate};
 ghost use Rattle.dates.specs.Convert.{dateToUtc, utcToDate};
+ghost use Rattle.restricted.specs.Answers.{told as toldRestricted};
+ghost use Rattle.restricted.specs.Convert.{restrictText, unrestrictText};
 ghost use Rattle.router.specs.Run.{Routing};
 ghost use Rattle.gateway.specs.Texts.{readOutcome, recordOfText, textOfRecord};
 
@@ -183,4 +186,18 @@ pub fn date_to_x400(date: &[u8], out: &mut [u8]) -> DateWritten
     ensures { λ r. ⌜ toldDate r (now (out .exit)) ≡ dateToUtc (now (date .entry)) (now (out .entry)) ⌝ }
 {
     dates::convert::date_to_utc(date, out)
+}
+
+// A local part's unquoted text in RFC 1137's restricted encoding, in a lent buffer: 0, 1 or 6.
+pub fn restrict(text: &[u8], out: &mut [u8]) -> RestrictedWritten
+    ensures { λ r. ⌜ toldRestricted r (now (out .exit)) ≡ restrictText (now (text .entry)) (now (out .entry)) ⌝ }
+{
+    restricted::convert::restrict(text, out)
+}
+
+// A text in that encoding back to what it stands for, or as it stands where it does not parse: 0, 1 or 6.
+pub fn unrestrict(text: &[u8], out: &mut [u8]) -> RestrictedWritten
+    ensures { λ r. ⌜ toldRestricted r (now (out .exit)) ≡ unrestrictText (now (text .entry)) (now (out .entry)) ⌝ }
+{
+    restricted::convert::unrestrict(text, out)
 }

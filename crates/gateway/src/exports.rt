@@ -5,10 +5,12 @@ use crate::entry::date_to_822;
 use crate::entry::date_to_x400;
 use crate::entry::put_text;
 use crate::entry::read_record;
+use crate::entry::restrict;
 use crate::entry::route;
 use crate::entry::shared_tail;
 use crate::entry::to_address;
 use crate::entry::to_record;
+use crate::entry::unrestrict;
 use crate::entry::write_canonical;
 use chars::write::put;
 use dates::convert::DateWritten;
@@ -19,11 +21,13 @@ use mapping::to_address::address_number;
 use mapping::to_record::record_line;
 use mapping::to_record::record_number;
 use oraddr::record::Record;
+use restricted::convert::RestrictedWritten;
+use restricted::convert::restricted_number;
 use soundness::check::CheckAnswer;
 ghost use mathlib.Core.Path.{_≡_};
 ghost use mathlib.Core.Bool.{true};
 ghost use mathlib.Core.List.{[]};
-ghost use Prim.Native.Nat.{_≤_};
+ghost use Prim.Native.Nat.{_≤_, _<_};
 ghost use lib.ListN.{length};
 ghost use Rattle.oraddr.specs.Canonical.{canonicalRecord};
 ghost use Rattle.oraddr.specs.View.{view};
@@ -35,7 +39,9 @@ ghost use Rattle.mapping.specs.Answers.{addressLine, toldAddress};
 ghost use Rattle.router.specs.Run.{Routing};
 ghost use Rattle.dates.specs.Answers.{told as toldDate};
 ghost use Rattle.dates.specs.Convert.{dateToUtc, utcToDate};
-ghost use Rattle.gateway.specs.Exports.{Exported, ExportedCheck, ExportedDate, Shown, addressToText, filled, packed, packedDate, textToAddress};
+ghost use Rattle.restricted.specs.Answers.{told as toldRestricted};
+ghost use Rattle.restricted.specs.Convert.{restrictText, unrestrictText};
+ghost use Rattle.gateway.specs.Exports.{Exported, ExportedCheck, ExportedText, Shown, addressToText, filled, packed, packedText, textToAddress};
 
 // A result in one value: its number, and 16 times the length or the line.
 fn pack(done: ToAddress) -> usize
@@ -140,19 +146,29 @@ pub extern "C" fn gateway_route(
     done.over
 }
 
+// 2^60: more bytes than any buffer has, since an address of the machine has 57 bits at most.
+const LENGTH_LIMIT: usize = 1152921504606846976;
+
+// A number and a text's length in one value. The remainder changes no length that there is, and for any keeps the value in range.
+fn pack_text(number: usize, size: usize) -> usize
+    requires { ⌜ number < 16 ⌝ }
+    ensures { λ r. ⌜ r ≡ packedText (record { number = number; size = size; buffer = [] }) ⌝ }
+{
+    number + 16 * (size % LENGTH_LIMIT)
+}
+
 // A date's result in one value.
 fn pack_date(done: DateWritten) -> usize
-    requires { ⌜ done .size ≤ 32 ⌝ }
-    ensures { λ r. ⌜ r ≡ packedDate (toldDate done []) ⌝ }
+    ensures { λ r. ⌜ r ≡ packedText (toldDate done []) ⌝ }
 {
     let answer = done.answer;
-    date_number(answer) + 16 * done.size
+    pack_text(date_number(answer), done.size)
 }
 
 // X.400's UTCTime to RFC 822's date-time in `out`.
 #[no_mangle]
 pub extern "C" fn gateway_date_to_822(utc: &[u8], out: &mut [u8]) -> usize
-    ensures { λ r. ⌜ ExportedDate (utcToDate (now (utc .entry)) (now (out .entry))) r (now (out .exit)) ⌝ }
+    ensures { λ r. ⌜ ExportedText (utcToDate (now (utc .entry)) (now (out .entry))) r (now (out .exit)) ⌝ }
 {
     pack_date(date_to_822(utc, out))
 }
@@ -160,7 +176,31 @@ pub extern "C" fn gateway_date_to_822(utc: &[u8], out: &mut [u8]) -> usize
 // RFC 822's date-time to X.400's UTCTime in `out`.
 #[no_mangle]
 pub extern "C" fn gateway_date_to_x400(date: &[u8], out: &mut [u8]) -> usize
-    ensures { λ r. ⌜ ExportedDate (dateToUtc (now (date .entry)) (now (out .entry))) r (now (out .exit)) ⌝ }
+    ensures { λ r. ⌜ ExportedText (dateToUtc (now (date .entry)) (now (out .entry))) r (now (out .exit)) ⌝ }
 {
     pack_date(date_to_x400(date, out))
+}
+
+// A restricted encoding's result in one value.
+fn pack_restricted(done: RestrictedWritten) -> usize
+    ensures { λ r. ⌜ r ≡ packedText (toldRestricted done []) ⌝ }
+{
+    let answer = done.answer;
+    pack_text(restricted_number(answer), done.size)
+}
+
+// A local part's unquoted text in RFC 1137's restricted encoding, in `out`.
+#[no_mangle]
+pub extern "C" fn gateway_restrict(text: &[u8], out: &mut [u8]) -> usize
+    ensures { λ r. ⌜ ExportedText (restrictText (now (text .entry)) (now (out .entry))) r (now (out .exit)) ⌝ }
+{
+    pack_restricted(restrict(text, out))
+}
+
+// A text in that encoding back to what it stands for, in `out`.
+#[no_mangle]
+pub extern "C" fn gateway_unrestrict(text: &[u8], out: &mut [u8]) -> usize
+    ensures { λ r. ⌜ ExportedText (unrestrictText (now (text .entry)) (now (out .entry))) r (now (out .exit)) ⌝ }
+{
+    pack_restricted(unrestrict(text, out))
 }

@@ -1,15 +1,14 @@
 -- Laws of converting: what is read is a date, and how long a text can be.
 -- Assumes nothing.
-use mathlib.Core.Path.{_≡_, refl, sym, ap, _∙_}
+use mathlib.Core.Path.{_≡_, sym, ap, _∙_}
 use mathlib.Core.Bool.{true, _&&_, not}
 use mathlib.Core.List.{List, [], _∷_, _++_}
 use mathlib.Core.Option.{Option, none, some, Option·some-injective}
 use Prim.Native.Nat.{ℕ, _+_, _-_, _≤_}
 use native.Mathlib.Omega.{arith}
-use lib.Dec.{eqb, ltb}
+use lib.Dec.{eqb}
 use lib.ListN.{length, take, drop, getD, length-append}
 use Rattle.chars.proofs.Laws.Lists.{by-test}
-use Rattle.dates.specs.Convert.{converted, dateToUtc, placed, refused, utcToDate}
 use Rattle.dates.specs.Date.{isDate}
 use Rattle.dates.specs.Read.{dayNames, kept, monthNames, numberIn, oneDigit, readBody, readDate, readRest, readUtc, restDate, restEnd, spacedAt, twoDigits, utcDate}
 use Rattle.dates.specs.Write.{dateSecondText, dateText, two, utcSecondText, utcText, zoneText}
@@ -77,22 +76,3 @@ date-length d h =
     let f = e ++ dateSecondText (d .second) in
     let g = f ++ (32 ∷ []) in
     omega (arith, length-append g (zoneText (d .offset)), length-append f (32 ∷ []), length-append e (dateSecondText (d .second)), length-append b (58 ∷ two (d .minute)), length-append a (32 ∷ two (d .hour)), date-day-length d h, behind-length 32 (d .hour), behind-length 58 (d .minute), date-second-length (d .second), zone-length (d .offset))
-
--- ---- counts
-
-placed-most : (s old : List ℕ) → placed s old .size ≤ length s
-unfolding placed refused
-placed-most s old = by-test (ltb (length old) (length s)) (λ e. rw e (omega arith)) (λ e. rw e (omega arith))
-
-counted : (text : DateTime → List ℕ) (o : Option DateTime) (old : List ℕ) → ((d : DateTime) → o ≡ some d → length (text d) ≤ 32) → converted text o old .size ≤ 32
-unfolding converted refused
-counted text none old h = omega arith
-counted text (some d) old h = omega (arith, placed-most (text d) old, h d refl)
-
-pub date-count : (s old : List ℕ) → utcToDate s old .size ≤ 32
-unfolding utcToDate
-date-count s old = counted dateText (readUtc s) old (λ d e. date-length d (utc-date s d e))
-
-pub utc-count : (s old : List ℕ) → dateToUtc s old .size ≤ 32
-unfolding dateToUtc
-utc-count s old = counted utcText (readDate s) old (λ d e. utc-length d)

@@ -4,11 +4,12 @@ use mathlib.Core.Path.{_≡_, refl, sym, ap, _∙_}
 use mathlib.Core.Logic.{inl, inr}
 use mathlib.Core.Bool.{true, false, cond}
 use mathlib.Core.List.{List, []}
-use Prim.Native.Nat.{ℕ, _+_, _*_, _≤_}
+use Prim.Native.Nat.{ℕ, _+_, _*_, _≤_, _<_}
 use native.Mathlib.Omega.{arith}
 use borrow.Author.Tests.{ne-eqb}
 use lib.Dec.{eqb}
 use Rattle.chars.specs.Lists.{nonEmpty}
+use Rattle.chars.specs.Write.{TextResult}
 use Rattle.chars.proofs.Laws.Lists.{by-test, true-not-false}
 use Rattle.oraddr.specs.Add.{Outcome, told}
 use Rattle.oraddr.specs.Canonical.{canonicalRecord}
@@ -38,12 +39,13 @@ use Rattle.mapping.specs.declared.to_record.RecordAnswer.the-variants as record
 use Rattle.mapping.specs.declared.to_record.ToRecord.{ToRecord}
 use Rattle.mapping.proofs.Laws.Returned.{done-canonical}
 use Rattle.soundness.specs.Check.{CheckResult, Demand3}
-use Rattle.dates.specs.Answers.{dateNumber, told as toldDate}
-use Rattle.dates.specs.Convert.{DateResult}
+use Rattle.dates.specs.Answers.{dateNumber}
 use Rattle.dates.specs.declared.convert.DateAnswer.{DateAnswer}
 use Rattle.dates.specs.declared.convert.DateAnswer.the-variants as date-answer
-use Rattle.dates.specs.declared.convert.DateWritten.{DateWritten}
-use Rattle.gateway.specs.Exports.{Exported, ExportedCheck, ExportedDate, Shown, addressToText, packed, packedDate, readingToAddress, textResult, textToAddress, textToAddressBy}
+use Rattle.restricted.specs.Answers.{restrictedNumber}
+use Rattle.restricted.specs.declared.convert.RestrictedAnswer.{RestrictedAnswer}
+use Rattle.restricted.specs.declared.convert.RestrictedAnswer.the-variants as restricted-answer
+use Rattle.gateway.specs.Exports.{Exported, ExportedCheck, ExportedText, Shown, addressToText, packed, packedText, readingToAddress, textResult, textToAddress, textToAddressBy}
 use Rattle.gateway.specs.Texts.{readOutcome, recordOfText}
 use Rattle.gateway.proofs.Laws.Texts.{outcome-done, outcome-not}
 use Rattle.gateway.proofs.Laws.Bounds.{address-bound, line-bound, mostCount, placed-line, placed-size, record-line-bound}
@@ -210,17 +212,18 @@ pub shown-size : (r : Record) (old new : List ℕ) (n : ℕ) → canonicalRecord
 unfolding remaining
 shown-size r old new n c k = omega (arith, k .size, text-bound (view r) (canonical-view r c) 0)
 
--- ---- dates
+-- ---- a text in a buffer
 
-pub date-small : (a : DateAnswer) → dateNumber a ≤ 10
+-- a result as it was told, in one value
+pub exported-text : (o t : TextResult) (r : ℕ) → t ≡ o → r ≡ packedText t → ExportedText o r (t .buffer)
+exported-text o t r e k = record { value = k ∙ ap packedText e; buffer = ap (λ (x : TextResult). x .buffer) e }
+
+pub date-small : (a : DateAnswer) → dateNumber a < 16
 date-small date-answer.Done = omega arith
 date-small date-answer.NoDate = omega arith
 date-small date-answer.ShortBuffer = omega arith
 
--- a date's result as it was told, in one value
-pub exported-date : (o : DateResult) (w : DateWritten) (r : ℕ) (new : List ℕ) → toldDate w new ≡ o → r ≡ packedDate (toldDate w []) → ExportedDate o r new
-unfolding packedDate
-exported-date o w r new e k = record { value = k ∙ ap packedDate e; buffer = ap (λ (x : DateResult). x .buffer) e }
-
-pub size-most : (o : DateResult) (w : DateWritten) (new : List ℕ) → toldDate w new ≡ o → o .size ≤ 32 → w .size ≤ 32
-size-most o w new e h = let n : w .size ≡ o .size = ap (λ (x : DateResult). x .size) e in omega arith
+pub restricted-small : (a : RestrictedAnswer) → restrictedNumber a < 16
+restricted-small restricted-answer.Done = omega arith
+restricted-small restricted-answer.ByteOver127 = omega arith
+restricted-small restricted-answer.ShortBuffer = omega arith

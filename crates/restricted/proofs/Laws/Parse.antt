@@ -117,7 +117,7 @@ hash-char = refl
 digit-char : (b : ℕ) → isDigit b ≡ true → isChar b ≡ true
 digit-char b h = is-char b (omega (arith, digit-below b h))
 
-plain-char : (x : ℕ) → isPlain x ≡ true → isChar x ≡ true
+pub plain-char : (x : ℕ) → isPlain x ≡ true → isChar x ≡ true
 unfolding isPlain
 plain-char x h = by-test (isChar x) (λ e. e) (λ e. true-not-false true refl (sym (rw e at h)))
 

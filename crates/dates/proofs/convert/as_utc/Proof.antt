@@ -6,8 +6,8 @@ use Prim.Native.Nat.{ℕ, _≤_}
 use native.Mathlib.Omega.{arith}
 use lib.ListN.{length}
 use lib.Seq.{length-take-le}
+use Rattle.chars.specs.Write.{placedText}
 use Rattle.chars.proofs.Laws.Write.{wrote-length, wrote-taken}
-use Rattle.dates.specs.Convert.{placed}
 use Rattle.dates.proofs.Laws.Convert.{utc-length}
 use borrow.Author.Needs.{needs}
 use Rattle.dates.proofs.convert.as_utc.Statement.{statement}
@@ -43,7 +43,7 @@ returns : tie.Need-returns
 returns c =
     let w = c .before .before .before .before .before .before in
     let s = w .before .before .before in
-    c .before .before .place .ensures ∙ ap (λ (t : List ℕ). placed t (s .args .out .now)) (wrote-taken (w .write-utc .ensures) (omega (arith, utc-length (s .args .d))))
+    c .before .before .place .ensures ∙ ap (λ (t : List ℕ). placedText t (s .args .out .now)) (wrote-taken (w .write-utc .ensures) (omega (arith, utc-length (s .args .d))))
 
 pub as-utc-spec : {M : Type 1} → statement M
 as-utc-spec =

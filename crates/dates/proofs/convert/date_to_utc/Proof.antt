@@ -2,8 +2,9 @@
 -- Assumes nothing.
 use mathlib.Core.Path.{_≡_, sym, ap, _∙_}
 use mathlib.Core.Option.{Option, some}
+use Rattle.chars.specs.Write.{refusedText}
 use Rattle.dates.specs.Answers.{told}
-use Rattle.dates.specs.Convert.{converted, refused, dateToUtc}
+use Rattle.dates.specs.Convert.{converted, dateToUtc}
 use Rattle.dates.specs.Read.{readDate}
 use Rattle.dates.specs.Write.{utcText}
 use Rattle.dates.specs.declared.convert.DateWritten.{DateWritten}
@@ -45,7 +46,7 @@ returns c =
     c .before .before .as-utc .ensures ∙ ap (λ (o : Option DateTime). converted utcText o (a .out .now)) (sym (came n))
 
 returns-2 : tie.Need-returns-2
-unfolding dateToUtc converted refused
+unfolding dateToUtc converted refusedText
 returns-2 c =
     let r = c .before .before .before in
     let a = r .before .before .before .args in

@@ -4,15 +4,14 @@ use mathlib.Core.Path.{_≡_}
 use native.Mathlib.Omega.{arith}
 use borrow.Author.Tests.{le-ltb, lt-ltb}
 use lib.ListN.{length}
-use Rattle.chars.specs.Write.{front}
+use Rattle.chars.specs.Write.{front, placedText, refusedText}
 use Rattle.chars.proofs.Laws.Write.{wrote-front}
-use Rattle.dates.specs.Convert.{placed, refused}
 use borrow.Author.Needs.{needs}
 use Rattle.dates.proofs.convert.place.Statement.{statement}
 use Rattle.dates.proofs.convert.place.Tie as tie
 
 returns : tie.Need-returns
-unfolding placed refused
+unfolding placedText refusedText
 returns c =
     let a = c .before .before .before .args in
     rw (lt-ltb (length (a .out .now)) (length (a .s .now)) (omega arith))
@@ -24,7 +23,7 @@ same-length : tie.Need-same-length
 same-length c = search needs
 
 returns-2 : tie.Need-returns-2
-unfolding placed
+unfolding placedText
 returns-2 c =
     let a = c .before .before .before .before .before .before .before .args in
     let p = c .before .before .put in

@@ -1,21 +1,17 @@
 -- `gateway::exports::gateway_date_to_822` meets its contract.
 -- Assumes nothing.
+use Rattle.dates.specs.Answers.{told}
 use Rattle.dates.specs.Convert.{utcToDate}
-use Rattle.dates.proofs.Laws.Convert.{date-count}
-use Rattle.gateway.proofs.Laws.Exports.{exported-date, size-most}
+use Rattle.gateway.proofs.Laws.Exports.{exported-text}
 use borrow.Author.Needs.{needs}
 use Rattle.gateway.proofs.exports.gateway_date_to_822.Statement.{statement}
 use Rattle.gateway.proofs.exports.gateway_date_to_822.Tie as tie
-use Rattle.gateway.proofs.entry.date_to_822.Reads as date-to-822-reads
 
 date-to-822-requires : tie.Need-date-to-822-requires
 date-to-822-requires c κs = search needs
 
 pack-date-requires : tie.Need-pack-date-requires
-pack-date-requires c κs =
-    let w = c .before .before in
-    let a = w .before .before .before .before .args in
-    size-most (utcToDate (a .utc .now) (a .out .now)) (w .date-to-822 .result) (w .date-to-822 .last .1 .0) (w .date-to-822 .ensures) (date-count (a .utc .now) (a .out .now))
+pack-date-requires c κs = search needs
 
 same-length : tie.Need-same-length
 same-length c = search needs
@@ -24,8 +20,7 @@ returns : tie.Need-returns
 returns c =
     let w = c .before .before .before in
     let a = w .before .before .before .before .args in
-    exported-date (utcToDate (a .utc .now) (a .out .now)) (w .date-to-822 .result) (c .pack-date .result) (w .date-to-822 .last .1 .0) (w .date-to-822 .ensures) (c .pack-date .ensures)
+    exported-text (utcToDate (a .utc .now) (a .out .now)) (told (w .date-to-822 .result) (w .date-to-822 .last .1 .0)) (c .pack-date .result) (w .date-to-822 .ensures) (c .pack-date .ensures)
 
 pub gateway-date-to-822-spec : {M : Type 1} → statement M
-gateway-date-to-822-spec =
-    tie.close (tie.spec date-to-822-requires pack-date-requires same-length returns)
+gateway-date-to-822-spec = tie.close (tie.spec date-to-822-requires pack-date-requires same-length returns)

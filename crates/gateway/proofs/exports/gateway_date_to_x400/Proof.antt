@@ -1,21 +1,17 @@
 -- `gateway::exports::gateway_date_to_x400` meets its contract.
 -- Assumes nothing.
+use Rattle.dates.specs.Answers.{told}
 use Rattle.dates.specs.Convert.{dateToUtc}
-use Rattle.dates.proofs.Laws.Convert.{utc-count}
-use Rattle.gateway.proofs.Laws.Exports.{exported-date, size-most}
+use Rattle.gateway.proofs.Laws.Exports.{exported-text}
 use borrow.Author.Needs.{needs}
 use Rattle.gateway.proofs.exports.gateway_date_to_x400.Statement.{statement}
 use Rattle.gateway.proofs.exports.gateway_date_to_x400.Tie as tie
-use Rattle.gateway.proofs.entry.date_to_x400.Reads as date-to-x400-reads
 
 date-to-x400-requires : tie.Need-date-to-x400-requires
 date-to-x400-requires c κs = search needs
 
 pack-date-requires : tie.Need-pack-date-requires
-pack-date-requires c κs =
-    let w = c .before .before in
-    let a = w .before .before .before .before .args in
-    size-most (dateToUtc (a .date .now) (a .out .now)) (w .date-to-x400 .result) (w .date-to-x400 .last .1 .0) (w .date-to-x400 .ensures) (utc-count (a .date .now) (a .out .now))
+pack-date-requires c κs = search needs
 
 same-length : tie.Need-same-length
 same-length c = search needs
@@ -24,8 +20,7 @@ returns : tie.Need-returns
 returns c =
     let w = c .before .before .before in
     let a = w .before .before .before .before .args in
-    exported-date (dateToUtc (a .date .now) (a .out .now)) (w .date-to-x400 .result) (c .pack-date .result) (w .date-to-x400 .last .1 .0) (w .date-to-x400 .ensures) (c .pack-date .ensures)
+    exported-text (dateToUtc (a .date .now) (a .out .now)) (told (w .date-to-x400 .result) (w .date-to-x400 .last .1 .0)) (c .pack-date .result) (w .date-to-x400 .ensures) (c .pack-date .ensures)
 
 pub gateway-date-to-x400-spec : {M : Type 1} → statement M
-gateway-date-to-x400-spec =
-    tie.close (tie.spec date-to-x400-requires pack-date-requires same-length returns)
+gateway-date-to-x400-spec = tie.close (tie.spec date-to-x400-requires pack-date-requires same-length returns)
