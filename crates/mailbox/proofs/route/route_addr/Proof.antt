@@ -39,7 +39,7 @@ returns-2 c =
     (not-true (r .result .found) (c .before .if2 .taken)))
 
 address-in-requires : tie.Need-address-in-requires
-address-in-requires c κs = (c .before .before .before .before .optional-route .ensures .stands, (c .before .before .before .before .before .before .before .before .before .before .pre .1 .0, c .before .before .before .before .before .before .before .before .before .before .pre .1 .1))
+address-in-requires c κs = search needs
 
 same-length : tie.Need-same-length
 same-length c = search needs
