@@ -1,3 +1,4 @@
 pub mod Bounds
 pub mod Exports
+pub mod Mailboxes
 pub mod Texts

@@ -46,10 +46,19 @@ use Rattle.restricted.specs.Convert.{restrictText, unrestrictText}
 use Rattle.restricted.proofs.Laws.Atoms.{coded-atoms}
 use Rattle.restricted.proofs.Laws.Back.{decoded-coded, not-coded-decoded}
 use Rattle.restricted.proofs.Laws.Convert.{calls-back}
+use Rattle.lexical.specs.Nesting.{nestsTooDeep}
+use Rattle.lexical.specs.Tokens.{longestLine}
+use Rattle.lexical.proofs.Laws.Depth.{nested, nested-too-deep}
+use Rattle.mailbox.specs.Mailbox.{Bare, bareIn, bareText, mailboxBy, placeIn, readMailbox, reading, readingOf, textBy}
+use Rattle.mailbox.proofs.Laws.Address.{address-reading}
+use Rattle.mailbox.proofs.Laws.AddressSame.{address-same}
+use Rattle.mailbox.proofs.Laws.Again.{unnamed-text, written-again}
+use Rattle.mailbox.proofs.Laws.Bare.{written-meaning, written-shape}
 use Rattle.router.proofs.Laws.Calls.{call-moves, calls-whole}
 use Rattle.router.proofs.Laws.Line.{loaded-rules}
 use Rattle.gateway.specs.Exports.{addressToText, lengthLimit, packedText, readingToAddress, textResult, textToAddress, textToAddressBy}
-use Rattle.gateway.specs.Promises.{Accepted, AddressRules, Dates, Demand1, Demand2, Demand3Exactly, EndsBuffer, EndsRecord, EndsText, Judgement, Packing, Promises, RecordRules, Restricted, Router}
+use Rattle.gateway.proofs.Laws.Mailboxes.{result-inside}
+use Rattle.gateway.specs.Promises.{Accepted, AddressRules, Dates, Demand1, Demand2, Demand3Exactly, EndsBuffer, EndsRecord, EndsText, Judgement, MailboxRules, Mailboxes, Packing, Promises, RecordRules, Restricted, Router}
 use Rattle.gateway.specs.Texts.{readOutcome, recordOfText, textOfRecord}
 use Rattle.gateway.proofs.Laws.Exports.{not-canonical}
 
@@ -423,6 +432,46 @@ restricted =
       atoms = coded-atoms;
     }
 
+-- ---- mailboxes
+
+read-ends : (o : Option Bare) (old : List ℕ) → EndsText (2 ∷ 9 ∷ 1 ∷ 6 ∷ []) old (textBy (readingOf o) old)
+unfolding textBy readingOf member
+read-ends none old = text-left (2 ∷ 9 ∷ 1 ∷ 6 ∷ []) old 1 refl
+read-ends (some b) old = text-placed (2 ∷ 9 ∷ 1 ∷ 6 ∷ []) old (bareText b) refl
+
+mailbox-ends : (s old : List ℕ) → EndsText (2 ∷ 9 ∷ 1 ∷ 6 ∷ []) old (readMailbox s old .text)
+unfolding readMailbox mailboxBy reading textBy member
+mailbox-ends s old =
+    by-test (ltb longestLine (length s))
+    (λ e. rw e (text-left (2 ∷ 9 ∷ 1 ∷ 6 ∷ []) old 2 refl))
+    (λ e. by-test (nestsTooDeep s) (λ f. rw (e, f) (text-left (2 ∷ 9 ∷ 1 ∷ 6 ∷ []) old 9 refl)) (λ f. rw (e, f) (read-ends (bareIn s) old)))
+
+mailbox-rules : (s old : List ℕ) → MailboxRules s old
+unfolding readMailbox mailboxBy reading readingOf textBy placeIn
+mailbox-rules s old =
+    record {
+      two = λ h. rw (lt-ltb longestLine (length s) h);
+      nine = λ h d. rw (le-ltb longestLine (length s) h, d);
+      one = λ h d e. rw (le-ltb longestLine (length s) h, d, e);
+      done = λ b h d e. rw (le-ltb longestLine (length s) h, d, e);
+      inside = result-inside s old;
+      empty-start = λ h. rw (lt-ltb 0 (textBy (reading s) old .number) h);
+    }
+
+pub mailboxes : Mailboxes
+unfolding nested
+mailboxes =
+    record {
+      ends = mailbox-ends;
+      rules = mailbox-rules;
+      shape = written-shape;
+      meaning = written-meaning;
+      address = address-reading;
+      same = address-same;
+      again = λ s b h k. (written-again s b h k, unnamed-text b);
+      nested = nested-too-deep;
+    }
+
 -- ---- all of it
 
 pub promises : Promises
@@ -435,4 +484,5 @@ promises =
       packing = packing;
       dates = dates;
       restricted = restricted;
+      mailboxes = mailboxes;
     }

@@ -1,3 +1,4 @@
 pub mod Exports
+pub mod Mailboxes
 pub mod Promises
 pub mod Texts

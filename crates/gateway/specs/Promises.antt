@@ -1,24 +1,25 @@
 -- The page that a reader must believe: what Lesogrom promises, over the definitions that the contracts of `src/entry.rt` cite.
 -- Each entry point's result is an equation to one of them (`addressToRecord`, `recordToAddress`, `recordOfText`, `textOfRecord`, `sharedTail`,
--- `utcToDate`, `dateToUtc`, `restrictText`, `unrestrictText`), or says `Demand3` or `Routing` of it. `proofs/Promises.antt` proves every statement
+-- `utcToDate`, `dateToUtc`, `restrictText`, `unrestrictText`, `readMailbox`, `phrasePlace`), or says `Demand3` or `Routing` of it. `proofs/Promises.antt` proves every statement
 -- of this page.
 -- Assumes nothing.
 use mathlib.Core.Path.{_≡_}
 use mathlib.Core.Logic.{_⊎_}
 use mathlib.Core.Bool.{Bool, true, false}
-use mathlib.Core.List.{List, [], _∷_}
+use mathlib.Core.List.{List, [], _∷_, _++_}
 use mathlib.Core.Option.{none, some}
-use Prim.Native.Nat.{ℕ, _/_, _%_, _≤_, _<_}
-use lib.ListN.{length, take, drop}
+use Prim.Native.Nat.{ℕ, _+_, _/_, _%_, _≤_, _<_}
+use lib.Dec.{ltb}
+use lib.ListN.{length, take, drop, replicate}
 use Rattle.chars.specs.Lists.{all, bytes, member}
 use Rattle.chars.specs.Parts.{isAtoms}
-use Rattle.chars.specs.Write.{TextResult, front}
+use Rattle.chars.specs.Write.{TextResult, front, placedText, refusedText}
 use Rattle.oraddr.specs.Canonical.{canonicalRecord}
 use Rattle.oraddr.specs.View.{emptyRecord, view}
 use Rattle.oraddr.specs.declared.record.Record.{Record}
 use Rattle.ortext.specs.Apply.{read}
 use Rattle.mailaddr.specs.Code.{coded}
-use Rattle.mailaddr.specs.Shape.{Address, longestAddress, shapeOf}
+use Rattle.mailaddr.specs.Shape.{Address, longestAddress, shapeOf, unquotedLocal}
 use Rattle.table.specs.Lines.{loadedFrom, malformed, wellFormed}
 use Rattle.table.specs.Table.{Table}
 use Rattle.mapping.specs.Carried.{carriedWhole, carrierOf, longestCoded, resultOf}
@@ -35,6 +36,10 @@ use Rattle.dates.specs.declared.date.DateTime.{DateTime}
 use Rattle.restricted.specs.Atoms.{isCodedAtoms}
 use Rattle.restricted.specs.Code.{coded as codedRestricted, decoded as decodedRestricted, isChar}
 use Rattle.restricted.specs.Convert.{restrictText, unrestrictText}
+use Rattle.lexical.specs.Nesting.{nestsTooDeep}
+use Rattle.lexical.specs.Tokens.{longestLine}
+use Rattle.mailbox.specs.Mailbox.{Bare, bareIn, bareText, emptyStart, localText, read as readAs, readMailbox, reading}
+use Rattle.mailbox.specs.Needless.{noNeedless}
 use Rattle.router.specs.Line.{answerRoom}
 use Rattle.router.specs.Run.{Calls, Routing, Waits, whole}
 use Rattle.router.specs.declared.run.Routed.{Routed}
@@ -182,6 +187,41 @@ pub record Restricted : Type 0 where
   pub not-forth : codedRestricted (decodedRestricted (bytes "#097#")) ≡ bytes "#097#" → ⊥
   pub atoms : (s : List ℕ) → all isChar s ≡ true → isAtoms (codedRestricted s) ≡ isCodedAtoms s
 
+-- ---- mailboxes: "Refusals, in order: 2 for a line over 4,096 bytes, 9 for nesting past eight .., 1 for no mailbox of this shape, 6 for a short
+-- buffer"; "Demands 2 and 3 speak of the bare address"
+
+pub record MailboxRules (s old : List ℕ) : Type 0 where
+  pub two : longestLine < length s → readMailbox s old .text ≡ refusedText 2 old
+  pub nine : length s ≤ longestLine → nestsTooDeep s ≡ true → readMailbox s old .text ≡ refusedText 9 old
+  pub one : length s ≤ longestLine → nestsTooDeep s ≡ false → bareIn s ≡ none → readMailbox s old .text ≡ refusedText 1 old
+  pub done : (b : Bare) → length s ≤ longestLine → nestsTooDeep s ≡ false → bareIn s ≡ some b → readMailbox s old .text ≡ placedText (bareText b) old
+  -- the phrase stands in the line; "with none or refused, that line's empty start"
+  pub inside : readMailbox s old .phrase .start + readMailbox s old .phrase .size ≤ length s
+  pub empty-start : 0 < readMailbox s old .text .number → readMailbox s old .phrase ≡ emptyStart
+
+-- an address with no phrase
+abbrev pub addressOnly : List ℕ → Bool → List ℕ → Bare
+addressOnly l q d = record { local = l; isQuoted = q; domain = d; phrase = emptyStart }
+
+pub record Mailboxes : Type 0 where
+  pub ends : (s old : List ℕ) → EndsText (2 ∷ 9 ∷ 1 ∷ 6 ∷ []) old (readMailbox s old .text)
+  pub rules : (s old : List ℕ) → MailboxRules s old
+  -- what is written has the accepted shape, and unquotes to the meaning of the words that were read
+  pub shape : (s : List ℕ) (b : Bare) → bareIn s ≡ some b
+      → shapeOf (bareText b) ≡ some (record { local = localText (b .isQuoted) (b .local); isQuoted = b .isQuoted; domain = b .domain })
+  pub meaning : (s : List ℕ) (b : Bare) → bareIn s ≡ some b
+      → unquotedLocal (record { local = localText (b .isQuoted) (b .local); isQuoted = b .isQuoted; domain = b .domain }) ≡ b .local
+  -- an address of the accepted shape reads with no phrase as the same address, and to the byte where no backslash in it is needless
+  pub address : (s : List ℕ) (a : Address) → shapeOf s ≡ some a → length s ≤ longestLine
+      → reading s ≡ readAs (addressOnly (unquotedLocal a) (a .isQuoted) (a .domain))
+  pub same : (s : List ℕ) (a : Address) → shapeOf s ≡ some a → noNeedless s ≡ true
+      → bareText (addressOnly (unquotedLocal a) (a .isQuoted) (a .domain)) ≡ s
+  -- what was written reads as itself
+  pub again : (s : List ℕ) (b : Bare) → bareIn s ≡ some b → length s ≤ longestLine
+      → (reading (bareText b) ≡ readAs (addressOnly (b .local) (b .isQuoted) (b .domain))) × (bareText (addressOnly (b .local) (b .isQuoted) (b .domain)) ≡ bareText b)
+  -- nesting is counted exactly
+  pub nested : (n : ℕ) → nestsTooDeep (replicate n 40 ++ (replicate n 41 ++ bytes "a@b")) ≡ ltb 8 n
+
 -- ---- all of it
 
 pub record Promises : Type 0 where
@@ -192,3 +232,4 @@ pub record Promises : Type 0 where
   pub packing : Packing
   pub dates : Dates
   pub restricted : Restricted
+  pub mailboxes : Mailboxes

@@ -1,5 +1,8 @@
 // Every entry point of the library, each with its promise. Each takes any bytes.
 use dates::convert::DateWritten;
+use mailbox::entry::mailbox_number;
+use mailbox::entry::read_mailbox;
+use mailbox::phrase::PhrasePlace;
 use mapping::to_address::AddressAnswer;
 use mapping::to_address::ToAddress;
 use mapping::to_address::place;
@@ -40,7 +43,10 @@ ghost use Rattle.dates.specs.Answers.{told as toldDate};
 ghost use Rattle.dates.specs.Convert.{dateToUtc, utcToDate};
 ghost use Rattle.restricted.specs.Answers.{told as toldRestricted};
 ghost use Rattle.restricted.specs.Convert.{restrictText, unrestrictText};
+ghost use Rattle.mailbox.specs.Answers.{toldPlace};
+ghost use Rattle.mailbox.specs.Mailbox.{phrasePlace, readMailbox};
 ghost use Rattle.router.specs.Run.{Routing};
+ghost use Rattle.gateway.specs.Mailboxes.{Shows};
 ghost use Rattle.gateway.specs.Texts.{readOutcome, recordOfText, textOfRecord};
 
 // Room for the text of any canonical record.
@@ -200,4 +206,26 @@ pub fn unrestrict(text: &[u8], out: &mut [u8]) -> RestrictedWritten
     ensures { λ r. ⌜ toldRestricted r (now (out .exit)) ≡ unrestrictText (now (text .entry)) (now (out .entry)) ⌝ }
 {
     restricted::convert::unrestrict(text, out)
+}
+
+// A header line as a mailbox, its bare address in a lent buffer: stored are the number, 0, 1, 2, 6 or 9, and the address's length, and returned is the part
+// of the line that its phrase is; with none, or refused, the line's empty start.
+pub fn mailbox<'a>(line: &'a [u8], out: &mut [u8], number: &mut usize, size: &mut usize) -> &'a [u8]
+    ensures { λ r. ⌜ Shows (readMailbox (now (line .entry)) (now (out .entry))) (line .entry) (now (number .exit)) (now (size .exit)) (now (out .exit)) r ⌝ }
+{
+    let done = read_mailbox(line, out);
+    let answer = done.answer;
+    *number = mailbox_number(answer);
+    *size = done.size;
+    let phrase = done.phrase;
+    let start = phrase.start;
+    let end = start + phrase.size;
+    &line[start..end]
+}
+
+// Where the phrase of a mailbox stands in its line, as if there were room for its address.
+pub fn phrase_place(line: &[u8]) -> PhrasePlace
+    ensures { λ r. ⌜ toldPlace r ≡ phrasePlace (now (line .entry)) ⌝ }
+{
+    mailbox::entry::phrase_place(line)
 }

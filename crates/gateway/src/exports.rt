@@ -3,6 +3,7 @@ use crate::entry::TEXT_ROOM;
 use crate::entry::check;
 use crate::entry::date_to_822;
 use crate::entry::date_to_x400;
+use crate::entry::phrase_place;
 use crate::entry::put_text;
 use crate::entry::read_record;
 use crate::entry::restrict;
@@ -15,6 +16,9 @@ use crate::entry::write_canonical;
 use chars::write::put;
 use dates::convert::DateWritten;
 use dates::convert::date_number;
+use mailbox::entry::MailboxWritten;
+use mailbox::entry::mailbox_number;
+use mailbox::entry::read_mailbox;
 use mapping::to_address::ToAddress;
 use mapping::to_address::address_line;
 use mapping::to_address::address_number;
@@ -41,6 +45,9 @@ ghost use Rattle.dates.specs.Answers.{told as toldDate};
 ghost use Rattle.dates.specs.Convert.{dateToUtc, utcToDate};
 ghost use Rattle.restricted.specs.Answers.{told as toldRestricted};
 ghost use Rattle.restricted.specs.Convert.{restrictText, unrestrictText};
+ghost use Rattle.mailbox.specs.Answers.{toldWritten};
+ghost use Rattle.mailbox.specs.Mailbox.{phrasePlace, readMailbox};
+ghost use Rattle.gateway.specs.Mailboxes.{packedPlace};
 ghost use Rattle.gateway.specs.Exports.{Exported, ExportedCheck, ExportedText, Shown, addressToText, filled, packed, packedText, textToAddress};
 
 // A result in one value: its number, and 16 times the length or the line.
@@ -203,4 +210,29 @@ pub extern "C" fn gateway_unrestrict(text: &[u8], out: &mut [u8]) -> usize
     ensures { λ r. ⌜ ExportedText (unrestrictText (now (text .entry)) (now (out .entry))) r (now (out .exit)) ⌝ }
 {
     pack_restricted(unrestrict(text, out))
+}
+
+// A mailbox's result in one value.
+fn pack_mailbox(done: MailboxWritten) -> usize
+    ensures { λ r. ⌜ r ≡ packedText (toldWritten done [] .text) ⌝ }
+{
+    let answer = done.answer;
+    pack_text(mailbox_number(answer), done.size)
+}
+
+// The bare address of a header line's mailbox, in `out`.
+#[no_mangle]
+pub extern "C" fn gateway_mailbox(line: &[u8], out: &mut [u8]) -> usize
+    ensures { λ r. ⌜ ExportedText (readMailbox (now (line .entry)) (now (out .entry)) .text) r (now (out .exit)) ⌝ }
+{
+    pack_mailbox(read_mailbox(line, out))
+}
+
+// Where the phrase of a header line's mailbox stands, in one value.
+#[no_mangle]
+pub extern "C" fn gateway_phrase(line: &[u8]) -> usize
+    ensures { λ r. ⌜ r ≡ packedPlace (phrasePlace (now (line .entry))) ⌝ }
+{
+    let phrase = phrase_place(line);
+    phrase.start * 65536 + phrase.size
 }
