@@ -6,15 +6,17 @@ letter for each token, is the grammar. The cases of tests/vectors/mailbox.tsv, w
 the library, must agree with what is worked out here; all are written but the longest, of which some are. Run it from the repository's root after
 a change to the cases; `git diff` then shows what moved.
 
-A case is a line: the room, a tab, and the bytes of a mailbox line in hexadecimal. So is its answer: the number, the address in hexadecimal,
-the phrase's start and its length, one tab apart."""
+A case is a line: the room in four decimal digits, a space, and the bytes of a mailbox line in hexadecimal. So is its answer: the number, the
+address's length, the address in hexadecimal, `=` for the rest of the buffer, the phrase's start and its length, and both as if there were room,
+one space apart."""
 import base64
 import itertools
 import re
 
 CRATE = "crates/mailbox_cases/"
-# Standard input, at most; the longest of the buffers.
-ROOM = 524288
+# Standard input, at most; the longest line; the longest of the buffers.
+ROOM = 1048576
+LINE = 4200
 BUFFER = 4096
 LONG = 1000
 
@@ -287,9 +289,10 @@ def cases():
 def main():
     stdin, stdout = [], []
     for room, line in cases():
-        number, address, start, length = answer(room, line)
-        stdin.append("%d\t%s" % (room, line.hex()))
-        stdout.append("%d\t%s\t%d\t%d" % (number, address.hex(), start, length))
+        assert len(line) <= LINE
+        number, address, *place = answer(room, line)
+        stdin.append("%04d %s" % (room, line.hex()))
+        stdout.append("%d %d %s = %d %d %d %d" % (number, len(address), address.hex(), *place, *read(line)[2:]))
     sizes = []
     for name, lines in (("stdin", stdin), ("stdout", stdout)):
         with open(CRATE + name, "w", encoding="ascii", newline="\n") as f:
