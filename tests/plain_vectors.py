@@ -1,7 +1,7 @@
 #!/usr/bin/env python3
 """Holds the unproved Rust program of docs/src/ against every case of tests/vectors/: the runs, the single calls, the checks' first
-bad lines and witnesses, and the dates. Needs cargo. Run it from the repository's root; its last line counts what agrees, and it fails on the first
-kind that does not."""
+bad lines and witnesses, the dates, the mailboxes and the restricted encoding. Needs cargo. Run it from the repository's root; its last line counts
+what agrees, and it fails on the first kind that does not."""
 import base64
 import glob
 import json
@@ -70,6 +70,19 @@ def date_case(line):
     return f"{call}\t{text.encode().hex()}", f"0\t{other.encode().hex()}" if number == "0" else number
 
 
+def mailbox_case(line):
+    """The call of one line of mailbox.tsv, and its answer."""
+    text, room, number, address, start, length = line.rstrip("\n").split("\t")
+    return f"mailbox\t{hexed(text)}\t{room}", f"0\t{hexed(address)}\t{start}\t{length}" if number == "0" else number
+
+
+def restricted_case(line):
+    """The call of one line of restricted.tsv, and its answer."""
+    way, text, room, number, other = line.rstrip("\n").split("\t")
+    call = {"E": "restrict", "D": "unrestrict"}[way]
+    return f"{call}\t{hexed(text)}\t{room}", f"0\t{hexed(other)}" if number == "0" else number
+
+
 def calls(kind, cases):
     out = subprocess.run([BUILT + "plain-answers"], input="".join(call + "\n" for call, _ in cases), capture_output=True, text=True, check=True)
     answers = out.stdout.split("\n")[:-1]
@@ -78,6 +91,11 @@ def calls(kind, cases):
         print(f"{kind}: {len(wrong)} of {len(cases)} disagree, the first: {wrong[:1]}")
         sys.exit(1)
     return len(cases)
+
+
+def stored(kind, name, case):
+    with open("tests/vectors/" + name, encoding="ascii", newline="\n") as lines:
+        return calls(kind, [case(line) for line in lines])
 
 
 def runs():
@@ -94,13 +112,12 @@ def runs():
 
 def main():
     subprocess.run(["cargo", "build", "--release", "--offline", "--quiet", "--manifest-path", SOURCE + "Cargo.toml"], check=True)
-    with open("tests/vectors/maps.jsonl", encoding="ascii") as lines:
-        maps = calls("maps", [map_case(json.loads(line)) for line in lines])
-    with open("tests/vectors/checks.jsonl", encoding="ascii") as lines:
-        checks = calls("checks", [check_case(json.loads(line)) for line in lines])
-    with open("tests/vectors/dates.tsv", encoding="ascii", newline="\n") as lines:
-        dates = calls("dates", [date_case(line) for line in lines])
-    print(f"{runs()} runs, {maps} calls, {checks} checks and {dates} dates agree")
+    maps = stored("maps", "maps.jsonl", lambda line: map_case(json.loads(line)))
+    checks = stored("checks", "checks.jsonl", lambda line: check_case(json.loads(line)))
+    dates = stored("dates", "dates.tsv", date_case)
+    mailboxes = stored("mailboxes", "mailbox.tsv", mailbox_case)
+    coded = stored("restricted encoding", "restricted.tsv", restricted_case)
+    print(f"{runs()} runs, {maps} calls, {checks} checks, {dates} dates, {mailboxes} mailboxes and {coded} texts of the restricted encoding agree")
 
 
 if __name__ == "__main__":

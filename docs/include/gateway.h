@@ -1,6 +1,6 @@
 /*
- * gateway.h: mail addresses between RFC 822 and X.400 under a table, and dates, for C programs on x86-64 (System V calling
- * convention).
+ * gateway.h: mail addresses between RFC 822 and X.400 under a table, dates, header mailboxes and the restricted encoding of local
+ * parts, for C programs on x86-64 (System V calling convention).
  * Link target/staticlib/libgateway.a, which `rt staticlib gateway` makes; beside it only the C library is needed.
  *
  * A table is a text of lines that end in LF, fields parted by single tabs:
@@ -43,7 +43,7 @@ extern "C" {
 #endif
 
 /*
- * gateway_to_record, gateway_to_address, gateway_check and the two functions for dates return a number with a count above it:
+ * Every function but gateway_shared_tail, gateway_route and gateway_phrase returns a number with a count above it:
  *
  *     size_t answer = gateway_to_record(...);
  *     switch (GATEWAY_NUMBER(answer)) ...
@@ -53,21 +53,27 @@ extern "C" {
 
 /* The numbers, and what the count is beside each. */
 #define GATEWAY_DONE 0          /* done; the length of the text at the front of `out` (0 from the check) */
-#define GATEWAY_NO_ADDRESS 1    /* the address is not of the form local-part@domain; 0 */
-#define GATEWAY_LONG_ADDRESS 2  /* the address is over 2,048 bytes; 0 */
+#define GATEWAY_NO_ADDRESS 1    /* the address is not of the form local-part@domain, the line is no mailbox, or text to code or to
+                                   decode has a byte over 127; 0 */
+#define GATEWAY_LONG_ADDRESS 2  /* the address is over 2,048 bytes, or a mailbox's line over 4,096; 0 */
 #define GATEWAY_LONG_CARRIED 3  /* it has to be carried whole, and its coded form is over the 128 characters of a record; 0 */
 #define GATEWAY_NO_RECORD 4     /* the text is no record text, or its record breaks a rule of X.400's; 0 */
 #define GATEWAY_BAD_CARRIED 5   /* the record carries an RFC 822 address, and its value does not decode to one; 0 */
 #define GATEWAY_SHORT_ROOM 6    /* `out` is shorter than the text; 0 */
 #define GATEWAY_BAD_TABLE 7     /* the table is malformed; its first bad line, from 1, or 0 where it is over 65,536 bytes */
 #define GATEWAY_UNSOUND_TABLE 8 /* from the check alone: the table is unsound; the length of the witness's text */
+#define GATEWAY_DEEP_COMMENT 9  /* from gateway_mailbox alone: comments stand more than eight deep in each other; 0 */
 #define GATEWAY_NO_DATE 10      /* from the dates alone: the text is malformed, or the date impossible; 0 */
 
-/* Room for any answer: no text that a function writes at once, with the number, tab and LF of gateway_route, is longer. */
+/* Room for any answer under a table: no text that a function with a table writes at once, with the number, tab and LF of
+   gateway_route, is longer. */
 #define GATEWAY_ANSWER_ROOM 2563
 
 /* Room for any date, in either form. */
 #define GATEWAY_DATE_ROOM 24
+
+/* Room for the address of any mailbox: it is never longer than the line. */
+#define GATEWAY_MAILBOX_ROOM 4096
 
 /*
  * Address to record: writes the record's text. An address that no rule of the table maps is carried whole, as a record at the
@@ -163,6 +169,80 @@ size_t gateway_date_to_822(const uint8_t *utc, size_t utc_len, uint8_t *out, siz
 
 /* Date-time to UTCTime: Sun, 5 nov 26 10:20:30 -0330 is 261105102030-0330. */
 size_t gateway_date_to_x400(const uint8_t *date, size_t date_len, uint8_t *out, size_t out_len);
+
+/*
+ * Header mailboxes, as they stand behind From: or To:, by RFC 822's grammar without domain literals. No table has a part in this;
+ * the address that is written is one that gateway_to_record takes.
+ *
+ *     mailbox    = addr-spec / phrase "<" [route] addr-spec ">"
+ *     addr-spec  = local-part "@" domain
+ *     local-part = word *("." word)
+ *     domain     = atom *("." atom)
+ *     route      = 1#("@" domain) ":"
+ *     phrase     = 1*word
+ *     word       = atom / quoted-string
+ *
+ * - `line` is one mailbox, of at most 4,096 bytes. Nothing, comments alone, a list, a group, and <a@b> with no phrase in front are
+ *   refused with 1.
+ * - Spaces, tabs, folds and comments may stand between any two words and marks, and at both ends. A fold is CR LF directly
+ *   followed by a space or a tab; any other CR or LF outside comments is refused with 1, so hand over no line end.
+ * - A comment holds ASCII and comments; a CR in it stands in a fold or behind a backslash. Comments stand in each other at most
+ *   eight deep. 9 is told of any line in which more are open at once outside quoted strings, even if they never close.
+ * - A quoted string holds bytes 32 to 126. Folds in it lose CR and LF, and it may then have no tab.
+ *
+ *     (to) Joe (R.) "de la" <@relay.test, @tow.test: joe . "so ap" @ tow.test>
+ *
+ * has the address "joe.so ap"@tow.test, and its phrase is the 16 bytes from 5 on.
+ *
+ *     uint8_t out[GATEWAY_MAILBOX_ROOM];
+ *     size_t answer = gateway_mailbox(line, line_len, out, sizeof out);
+ *     if (GATEWAY_NUMBER(answer) == GATEWAY_DONE) {
+ *         size_t phrase = gateway_phrase(line, line_len);
+ *         fwrite(line + GATEWAY_PHRASE_START(phrase), 1, GATEWAY_PHRASE_LENGTH(phrase), stdout);
+ *     }
+ */
+
+/*
+ * Writes the bare address, without white space outside quotes. The route is dropped. A local part with a quoted word is written as
+ * one quoted string of the same meaning, in which only `"` and `\` stand behind a backslash; any other is written as its atoms,
+ * joined by dots. An address may come out over 2,048 bytes; gateway_to_record then answers 2.
+ *
+ * Numbers, the first that holds: 2, 9, 1, 6; else 0.
+ */
+size_t gateway_mailbox(const uint8_t *line, size_t line_len, uint8_t *out, size_t out_len);
+
+/*
+ * Where the phrase stands in the line, from the first byte of its first word to the last of its last, with quotes, and comments
+ * between: its start times 65,536, and its length. 0 where there is no phrase, and where the line is refused with 2, 9 or 1.
+ */
+size_t gateway_phrase(const uint8_t *line, size_t line_len);
+#define GATEWAY_PHRASE_START(phrase) ((size_t)((phrase) / 65536))
+#define GATEWAY_PHRASE_LENGTH(phrase) ((size_t)((phrase) % 65536))
+
+/*
+ * RFC 1137's restricted encoding of a local part's unquoted text, for links that know only atoms. No table has a part in this.
+ *
+ *     coded                          stands for
+ *     _                              a space
+ *     #u# #l# #r# #m# #c# #b# #h#    _ ( ) , : \ #
+ *     #s# #e#                        / =    read, and never written: these two stand for themselves
+ *     #000# to #127#                 the character of this number; written of controls and " ; < > [ ]
+ *     any other character, but these, stands for itself, `@` and `.` among them
+ *
+ * - Letters are read in either case and written small. A number has exactly three digits, and is read even where it is needless.
+ * - Text of which any part does not parse as coded is decoded to itself, with 0. So what was coded decodes to the text that it
+ *   was, but what was decoded need not code to what it was.
+ *
+ * `Joe Soap` is coded Joe_Soap, and `argle#~` is argle#h#~; argle#h##126# decodes to `argle#~` too.
+ *
+ * Numbers, the first that holds: 1 for a byte over 127, 6; else 0.
+ */
+
+/* Codes: the coded text is at most five times as long. */
+size_t gateway_restrict(const uint8_t *text, size_t text_len, uint8_t *out, size_t out_len);
+
+/* Decodes: the text is at most as long as the coded one. */
+size_t gateway_unrestrict(const uint8_t *text, size_t text_len, uint8_t *out, size_t out_len);
 
 #ifdef __cplusplus
 }

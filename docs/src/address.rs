@@ -105,7 +105,7 @@ pub fn decode(value: &[u8]) -> Option<Vec<u8>> {
         match b {
             b'(' => {
                 let close = rest.iter().position(|&b| b == b')')?;
-                out.push(decode_group(&rest[..close])?);
+                out.push(decode_group(&LETTERS, &rest[..close])?);
                 rest = &rest[close + 1..];
             }
             b')' => return None,
@@ -115,9 +115,10 @@ pub fn decode(value: &[u8]) -> Option<Vec<u8>> {
     Some(out)
 }
 
-fn decode_group(group: &[u8]) -> Option<u8> {
+/// What stands between the marks of a group: one of these letters, in either case, or three digits up to 127.
+pub fn decode_group(letters: &[(u8, u8)], group: &[u8]) -> Option<u8> {
     match group {
-        [letter] => LETTERS
+        [letter] => letters
             .iter()
             .find(|(known, _)| known.eq_ignore_ascii_case(letter))
             .map(|(_, b)| *b),

@@ -1,6 +1,8 @@
 //! Answers single calls, one a line, fields parted by tabs and byte strings in hexadecimal:
 //! - `load table`, `a2r table address`, `r2a table room record`: the number, and the line (7) or the text (0; a record's text)
 //! - `u2d text`, `d2u text`: the number, and the text (0): a UTCTime's date-time, a date-time's UTCTime
+//! - `mailbox line room`: the number, and (0) the address, the phrase's start and its length
+//! - `restrict text room`, `unrestrict text room`: the number, and the text (0): a text's coded form, a coded form's text
 //! - `tail first second`: the tail
 //! - `witness table record-text`: 1 for a record that is canonical, no carrier and does not come back, else 0
 //!
@@ -11,8 +13,10 @@ use std::io::{self, BufRead, Write};
 
 use plain::address::shared_tail;
 use plain::dates::{to_822, to_x400};
+use plain::mailbox;
 use plain::mapping::{comes_back, is_carrier, to_address, to_record};
 use plain::record::Record;
+use plain::restricted::{restrict, unrestrict};
 use plain::run::record_of_text;
 use plain::table::Table;
 use plain::text::write_text;
@@ -50,26 +54,58 @@ fn record(fields: &[&str]) -> Record {
     }
 }
 
-fn answer(fields: &[&str]) -> String {
-    let table = Table::read(&bytes(fields[1]));
-    let done = |result: Result<Vec<u8>, u8>| match result {
+fn room(field: &str) -> usize {
+    field.parse().expect("a room")
+}
+
+/// The text, if there is room for it.
+fn fitting(text: Vec<u8>, room: usize) -> Result<Vec<u8>, u8> {
+    Some(text).filter(|text| text.len() <= room).ok_or(6)
+}
+
+fn done(result: Result<Vec<u8>, u8>) -> String {
+    match result {
         Ok(text) => format!("0\t{}", hex(&text)),
         Err(number) => format!("{number}"),
-    };
-    match (fields[0], table) {
-        ("tail", _) => hex(shared_tail(&bytes(fields[1]), &bytes(fields[2]))),
-        ("u2d", _) => done(to_822(&bytes(fields[1]))),
-        ("d2u", _) => done(to_x400(&bytes(fields[1]))),
+    }
+}
+
+fn mailbox_answer(line: &[u8], room: usize) -> String {
+    let found = mailbox::read(line).and_then(|found| {
+        let address = fitting(found.address, room)?;
+        Ok((address, found.phrase))
+    });
+    match found {
+        Ok((address, phrase)) => {
+            format!("0\t{}\t{}\t{}", hex(&address), phrase.start, phrase.length)
+        }
+        Err(number) => format!("{number}"),
+    }
+}
+
+fn answer(fields: &[&str]) -> String {
+    let text = bytes(fields[1]);
+    let in_room = |text| fitting(text, room(fields[2]));
+    match fields[0] {
+        "tail" => hex(shared_tail(&text, &bytes(fields[2]))),
+        "u2d" => done(to_822(&text)),
+        "d2u" => done(to_x400(&text)),
+        "mailbox" => mailbox_answer(&text, room(fields[2])),
+        "restrict" => done(restrict(&text).and_then(in_room)),
+        "unrestrict" => done(unrestrict(&text).and_then(in_room)),
+        _ => under_table(&text, fields),
+    }
+}
+
+fn under_table(table: &[u8], fields: &[&str]) -> String {
+    match (fields[0], Table::read(table)) {
         (_, Err(line)) => format!("7\t{line}"),
         ("a2r", Ok(table)) => done(
             to_record(&table, &bytes(fields[2]))
                 .0
                 .map(|record| write_text(&record, 0)),
         ),
-        ("r2a", Ok(table)) => {
-            let room = fields[2].parse().expect("a room");
-            done(to_address(&table, &record(&fields[3..]), room))
-        }
+        ("r2a", Ok(table)) => done(to_address(&table, &record(&fields[3..]), room(fields[2]))),
         ("load", Ok(_)) => "0".to_string(),
         ("witness", Ok(table)) => {
             let shown = record_of_text(&bytes(fields[2])).is_some_and(|record| {

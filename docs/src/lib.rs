@@ -1,10 +1,13 @@
-//! The mapping between Internet and X.400 addresses under a table, and of dates, in ordinary Rust and unproved: a second opinion.
+//! The mapping between Internet and X.400 addresses under a table, dates, header mailboxes and the restricted encoding of local parts, in
+//! ordinary Rust and unproved: a second opinion.
 
 pub mod address;
 pub mod chars;
 pub mod dates;
+pub mod mailbox;
 pub mod mapping;
 pub mod record;
+pub mod restricted;
 pub mod run;
 pub mod table;
 pub mod text;

@@ -1,55 +1,60 @@
-// One case: a buffer's length, and a line to read as a mailbox.
-use crate::hex::unhex;
-use crate::print::print_case;
-use chars::parts::part_end;
+// One case: a line read as a mailbox, in a buffer of a length.
+use cases::print::FILLED;
+use cases::print::say;
+use cases::print::say_number;
+use cases::print::say_written;
+use cases::read::LARGEST;
+use cases::read::number;
+use cases::read::unhex;
+use mailbox::entry::MailboxWritten;
+use mailbox::entry::mailbox_number;
+use mailbox::entry::phrase_place;
 use mailbox::entry::read_mailbox;
+use mailbox::phrase::PhrasePlace;
 ghost use Prim.Native.Nat.{_≤_};
-ghost use lib.ListN.{length};
 
-// The longest line of a case, and its longest buffer.
-const LINE: usize = 4100;
+// Room for the longest line: one that is longer than a mailbox's may be is a case too.
+const LINE: usize = 4200;
 
-const ROOM: usize = 4096;
+// Where a phrase stands.
+fn print_place(place: PhrasePlace) {
+    say(b" ");
+    say_number(place.start);
+    say(b" ");
+    say_number(place.size);
+}
 
-// What a buffer is filled with.
-const FILLED: u8 = b'.';
-
-// The number that digits spell, no more than the longest buffer.
-fn number(s: &[u8]) -> usize
-    ensures { λ r. ⌜ r ≤ 4096 ⌝ }
-{
-    let mut n: usize = 0;
-    let mut i = 0;
-    while i < s.len() {
-        n = (n * 10 + (s[i] % 16) as usize) % (ROOM + 1);
-        i += 1;
-    }
-    n
+fn print_read(done: MailboxWritten, out: &[u8]) {
+    let answer = done.answer;
+    say_written(mailbox_number(answer), done.size, out);
+    print_place(done.phrase);
 }
 
 fn run_into(line: &[u8], out: &mut [u8]) {
     let done = read_mailbox(line, out);
-    print_case(done, out);
+    print_read(done, out);
+    print_place(phrase_place(line));
+    say(b"\n");
 }
 
-fn run_in(line: &[u8], room: usize)
-    requires { ⌜ room ≤ 4096 ⌝ }
+// A case in a buffer of n bytes.
+fn run_case(line: &[u8], n: usize)
+    requires { ⌜ n ≤ 9999 ⌝ }
 {
-    let mut out = [FILLED; ROOM];
-    run_into(line, &mut out[..room]);
+    let mut out = [FILLED; LARGEST];
+    run_into(line, &mut out[..n]);
 }
 
-fn run_case(room: &[u8], digits: &[u8]) {
+// The digits at the front of a case, and the line in hexadecimal.
+fn run_spelt(digits: &[u8], spelt: &[u8]) {
     let mut line = [0u8; LINE];
-    let n = unhex(&mut line, digits);
-    run_in(&line[..n], number(room));
+    let n = unhex(&mut line, spelt);
+    run_case(&line[..n], number(digits));
 }
 
-// One line: a number, a tab and hexadecimal digits.
-pub(crate) fn run_line(line: &[u8]) {
-    let tab = part_end(line, 0, b'\t');
-    if line.len() <= tab {
+pub(crate) fn run_line(case: &[u8]) {
+    if case.len() < 5 {
         return;
     }
-    run_case(&line[..tab], &line[tab + 1..]);
+    run_spelt(&case[0..4], &case[5..]);
 }

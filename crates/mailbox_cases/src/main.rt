@@ -1,26 +1,18 @@
-// Runs the mailbox reader on the cases in stdin. The cases and what must be printed are made by tests/mailbox_cases.py, which follows request 2 by
-// itself and runs nothing of the library.
+// Runs the mailbox reader on the cases in stdin. The cases and what must be printed are made by tests/mailbox_cases.py, which follows
+// request 2 by itself and runs nothing of the library.
 //
-// Standard input is lines, each the buffer's length in decimal, a tab, and a header line's bytes in hexadecimal digits.
-// Printed of each: the number, the bare address in hexadecimal digits, and the phrase's start and length, one tab apart.
+// Standard input is lines, each the length of the buffer in four decimal digits, a space, and a header line's bytes in hexadecimal, since
+// it may have any byte:
+//   0005 LINE
+// Printed of each: the number, the length that is told, the front of the buffer of that length in hexadecimal, whether the rest of the
+// buffer is as before (`=`) or not (`!`), the phrase's start and its length, and both once more as `phrase_place` tells them, one space apart.
 mod case;
-mod hex;
-mod print;
 
 use case::run_line;
-ghost use Prim.Native.Nat.{_<_, _≤_};
-ghost use lib.ListN.{length};
+use cases::lines::line_end;
 
 // Standard input, at most.
-const ROOM: usize = 2097152;
-
-// Where the line that starts at a place ends.
-fn line_end(s: &[u8], from: usize) -> usize
-    requires { ⌜ from < length (now s) ⌝ }
-    ensures { λ r. ⌜ (from ≤ r) × (r ≤ length (now (s .entry))) ⌝ }
-{
-    chars::parts::part_end(s, from, b'\n')
-}
+const ROOM: usize = 1048576;
 
 fn run(s: &[u8]) {
     let mut from = 0;
@@ -31,8 +23,13 @@ fn run(s: &[u8]) {
     }
 }
 
+// Reads standard input, and runs it.
+fn read_and_run(space: &mut [u8]) {
+    let n = io::read_full(libc::STDIN_FILENO, space);
+    run(&space[..n]);
+}
+
 fn main() {
     let mut space = [0u8; ROOM];
-    let n = io::read_full(libc::STDIN_FILENO, &mut space);
-    run(&space[..n]);
+    read_and_run(&mut space);
 }

@@ -1,19 +1,18 @@
 // One case: a text coded, or read back, in a buffer of a length.
-use crate::print::print_case;
-use crate::read::number;
-use crate::read::unhex;
+use cases::print::FILLED;
+use cases::print::say;
+use cases::print::say_written;
+use cases::read::LARGEST;
+use cases::read::number;
+use cases::read::unhex;
 use restricted::convert::RestrictedWritten;
 use restricted::convert::restrict;
+use restricted::convert::restricted_number;
 use restricted::convert::unrestrict;
 ghost use Prim.Native.Nat.{_≤_};
 
-// Room for the longest text, and for the longest buffer.
+// Room for the longest text.
 const TEXT: usize = 2048;
-
-const ROOM: usize = 9999;
-
-// What a buffer is filled with: a byte that no answer has.
-const FILLED: u8 = 255;
 
 // The letter E codes the text, and D reads it back.
 fn convert(tag: u8, text: &[u8], out: &mut [u8]) -> RestrictedWritten {
@@ -25,14 +24,16 @@ fn convert(tag: u8, text: &[u8], out: &mut [u8]) -> RestrictedWritten {
 
 fn run_into(tag: u8, text: &[u8], out: &mut [u8]) {
     let done = convert(tag, text, out);
-    print_case(done, out, FILLED);
+    let answer = done.answer;
+    say_written(restricted_number(answer), done.size, out);
+    say(b"\n");
 }
 
 // A case in a buffer of n bytes.
 fn run_case(tag: u8, text: &[u8], n: usize)
     requires { ⌜ n ≤ 9999 ⌝ }
 {
-    let mut out = [FILLED; ROOM];
+    let mut out = [FILLED; LARGEST];
     run_into(tag, text, &mut out[..n]);
 }
 

@@ -8,23 +8,12 @@
 // Printed of each: the number, the length that is told, the front of the buffer of that length in hexadecimal, and whether the rest of the
 // buffer is as before (`=`) or not (`!`), one space apart.
 mod case;
-mod print;
-mod read;
 
 use case::run_line;
-ghost use Prim.Native.Nat.{_<_, _≤_};
-ghost use lib.ListN.{length};
+use cases::lines::line_end;
 
 // Standard input, at most.
 const ROOM: usize = 262144;
-
-// Where the line that starts at a place ends.
-fn line_end(s: &[u8], from: usize) -> usize
-    requires { ⌜ from < length (now s) ⌝ }
-    ensures { λ r. ⌜ (from ≤ r) × (r ≤ length (now (s .entry))) ⌝ }
-{
-    chars::parts::part_end(s, from, b'\n')
-}
 
 fn run(s: &[u8]) {
     let mut from = 0;

@@ -5,10 +5,13 @@ use plain::dates::{self, Date};
 use crate::account::Account;
 use crate::calls::room_about;
 use crate::damage::noise;
-use crate::lent::Lent;
 use crate::library;
 use crate::random::Random;
-use crate::round::{hex, Compared, Round};
+use crate::round::{Compared, Round};
+use crate::texts::{by_the_library, converted};
+
+/// Room for any date.
+const ROOM: usize = 64;
 
 /// One direction: the export, its rules, the names of its kinds, and the export of the way back.
 struct Direction {
@@ -247,55 +250,11 @@ fn count_kinds(account: &mut Account, way: &Direction, text: &[u8]) {
     kind(day[1] == b' ', "one-digit day");
 }
 
-/// One call: what it must return and leave in a buffer of this room.
-fn converted(
-    random: &mut Random,
-    account: &mut Account,
-    function: &'static str,
-    call: library::Conversion,
-    text: &[u8],
-    wanted: &Result<Vec<u8>, u8>,
-    room: usize,
-) -> Compared {
-    let (number, written) = match wanted {
-        Ok(written) if written.len() <= room => (0, &written[..]),
-        Ok(_) => (6, &b""[..]),
-        Err(number) => (usize::from(*number), &b""[..]),
-    };
-    let mut lent = Lent::new(random, room);
-    let found = call(text, lent.room());
-    account.calls += 1;
-    account.count_number(function, number, 0);
-    if found == number + 16 * written.len() && lent.holds(written) {
-        return Ok(());
-    }
-    Err(format!(
-        "{function}, room {room}: wanted {number} with {}, found {} with {}; differs: {}\ntext {}\nwhich is {}",
-        written.len(),
-        found % 16,
-        found / 16,
-        lent.first_difference(written),
-        hex(text),
-        String::from_utf8_lossy(text).escape_debug()
-    ))
-}
-
-/// What a direction writes, by the library alone and with room for any date.
-fn by_the_library(account: &mut Account, call: library::Conversion, text: &[u8]) -> Vec<u8> {
-    let mut out = [0; 64];
-    let answer = call(text, &mut out);
-    account.calls += 1;
-    match answer % 16 {
-        0 => out[..(answer / 16).min(64)].to_vec(),
-        number => format!("refused with {number}").into_bytes(),
-    }
-}
-
 /// What was written is read back by the other direction, and this one then writes the same text.
 fn there_and_back(account: &mut Account, way: &Direction, text: &[u8]) -> Compared {
-    let written = by_the_library(account, way.call, text);
-    let back = by_the_library(account, way.call_back, &written);
-    let again = by_the_library(account, way.call, &back);
+    let written = by_the_library(account, way.call, text, ROOM);
+    let back = by_the_library(account, way.call_back, &written, ROOM);
+    let again = by_the_library(account, way.call, &back, ROOM);
     account.count("date there and back", way.back);
     if again == written {
         return Ok(());

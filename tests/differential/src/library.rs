@@ -54,13 +54,32 @@ mod exports {
             out: *mut u8,
             out_len: usize,
         ) -> usize;
+        pub fn gateway_mailbox(
+            line: *const u8,
+            line_len: usize,
+            out: *mut u8,
+            out_len: usize,
+        ) -> usize;
+        pub fn gateway_phrase(line: *const u8, line_len: usize) -> usize;
+        pub fn gateway_restrict(
+            text: *const u8,
+            text_len: usize,
+            out: *mut u8,
+            out_len: usize,
+        ) -> usize;
+        pub fn gateway_unrestrict(
+            text: *const u8,
+            text_len: usize,
+            out: *mut u8,
+            out_len: usize,
+        ) -> usize;
     }
 }
 
 /// A mapping: under a table, of a text, into a buffer.
 pub type Mapping = fn(&[u8], &[u8], &mut [u8]) -> usize;
 
-/// A date of one form to the other: of a text, into a buffer.
+/// One text made of another, without a table: of a text, into a buffer.
 pub type Conversion = fn(&[u8], &mut [u8]) -> usize;
 
 pub fn to_record(table: &[u8], text: &[u8], out: &mut [u8]) -> usize {
@@ -132,4 +151,20 @@ pub fn date_to_822(utc: &[u8], out: &mut [u8]) -> usize {
 
 pub fn date_to_x400(date: &[u8], out: &mut [u8]) -> usize {
     unsafe { exports::gateway_date_to_x400(date.as_ptr(), date.len(), out.as_mut_ptr(), out.len()) }
+}
+
+pub fn mailbox(line: &[u8], out: &mut [u8]) -> usize {
+    unsafe { exports::gateway_mailbox(line.as_ptr(), line.len(), out.as_mut_ptr(), out.len()) }
+}
+
+pub fn phrase(line: &[u8]) -> usize {
+    unsafe { exports::gateway_phrase(line.as_ptr(), line.len()) }
+}
+
+pub fn restrict(text: &[u8], out: &mut [u8]) -> usize {
+    unsafe { exports::gateway_restrict(text.as_ptr(), text.len(), out.as_mut_ptr(), out.len()) }
+}
+
+pub fn unrestrict(text: &[u8], out: &mut [u8]) -> usize {
+    unsafe { exports::gateway_unrestrict(text.as_ptr(), text.len(), out.as_mut_ptr(), out.len()) }
 }

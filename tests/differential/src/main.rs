@@ -12,11 +12,15 @@ mod damage;
 mod dates;
 mod lent;
 mod library;
+mod mailbox_lines;
+mod mailboxes;
 mod random;
 mod records;
+mod restricted;
 mod round;
 mod routes;
 mod tables;
+mod texts;
 
 use std::env;
 use std::process::ExitCode;
@@ -66,13 +70,15 @@ fn options() -> Option<Options> {
 fn one_round(round: &mut Round, account: &mut Account) -> Compared {
     account.tables += 1;
     for _ in 0..CALLS_OF_A_ROUND {
-        match round.random.below(20) {
+        match round.random.below(24) {
             0..=6 => calls::to_record(round, account)?,
             7..=14 => calls::to_address(round, account)?,
             15 => calls::check(round, account)?,
             16 => calls::shared_tail(round, account)?,
             17 => routes::route(round, account)?,
-            _ => dates::date(round, account)?,
+            18 | 19 => dates::date(round, account)?,
+            20..=22 => mailboxes::mailbox(round, account)?,
+            _ => restricted::restricted(round, account)?,
         }
     }
     Ok(())

@@ -55,14 +55,36 @@ mod exports {
             out: *mut u8,
             out_len: usize,
         ) -> usize;
+        pub fn gateway_mailbox(
+            line: *const u8,
+            line_len: usize,
+            out: *mut u8,
+            out_len: usize,
+        ) -> usize;
+        pub fn gateway_phrase(line: *const u8, line_len: usize) -> usize;
+        pub fn gateway_restrict(
+            text: *const u8,
+            text_len: usize,
+            out: *mut u8,
+            out_len: usize,
+        ) -> usize;
+        pub fn gateway_unrestrict(
+            text: *const u8,
+            text_len: usize,
+            out: *mut u8,
+            out_len: usize,
+        ) -> usize;
     }
 }
 
-/// Room for any answer.
+/// Room for any answer under a table.
 pub const ANSWER_ROOM: usize = 2563;
 
 /// Room for any date, in either form.
 pub const DATE_ROOM: usize = 24;
+
+/// Room for the address of any mailbox.
+pub const MAILBOX_ROOM: usize = 4096;
 
 /// Why there is no text.
 #[derive(Clone, Copy, Debug, PartialEq, Eq)]
@@ -216,4 +238,73 @@ pub fn date_to_x400(date_time: &[u8]) -> Option<Vec<u8>> {
         )
     };
     date(answer, &out)
+}
+
+/// A header mailbox, taken apart.
+#[derive(Clone, Debug, PartialEq, Eq)]
+pub struct Mailbox<'a> {
+    pub address: Vec<u8>,
+    /// From the first word to the last, as it stands in the line; empty where there is none.
+    pub phrase: &'a [u8],
+}
+
+/// Why a line gives no mailbox.
+#[derive(Clone, Copy, Debug, PartialEq, Eq)]
+pub enum NoMailbox {
+    /// It is over 4,096 bytes.
+    LongLine,
+    /// Comments stand more than eight deep in each other.
+    DeepComment,
+    OtherShape,
+}
+
+/// The bare address of a header mailbox, and its phrase.
+pub fn mailbox(line: &[u8]) -> Result<Mailbox<'_>, NoMailbox> {
+    let mut out = [0; MAILBOX_ROOM];
+    let answer =
+        unsafe { exports::gateway_mailbox(line.as_ptr(), line.len(), out.as_mut_ptr(), out.len()) };
+    match answer % 16 {
+        0 => Ok(Mailbox {
+            address: out[..answer / 16].to_vec(),
+            phrase: phrase(line),
+        }),
+        1 => Err(NoMailbox::OtherShape),
+        2 => Err(NoMailbox::LongLine),
+        9 => Err(NoMailbox::DeepComment),
+        number => unreachable!("a mailbox with room answered {number}"),
+    }
+}
+
+/// The phrase of a header mailbox; empty where there is none.
+fn phrase(line: &[u8]) -> &[u8] {
+    let place = unsafe { exports::gateway_phrase(line.as_ptr(), line.len()) };
+    let (start, length) = (place / 65536, place % 65536);
+    &line[start..start + length]
+}
+
+/// Text that was coded or decoded, which always fits in the room that was lent; None where the other has a byte over 127.
+fn coded(answer: usize, out: &[u8]) -> Option<Vec<u8>> {
+    match answer % 16 {
+        0 => Some(out[..answer / 16].to_vec()),
+        1 => None,
+        number => unreachable!("text with room answered {number}"),
+    }
+}
+
+/// The restricted encoding of a local part's unquoted text.
+pub fn restrict(text: &[u8]) -> Option<Vec<u8>> {
+    let mut out = vec![0; 5 * text.len()];
+    let answer = unsafe {
+        exports::gateway_restrict(text.as_ptr(), text.len(), out.as_mut_ptr(), out.len())
+    };
+    coded(answer, &out)
+}
+
+/// The text that a restricted encoding stands for, or the text itself where it is none.
+pub fn unrestrict(text: &[u8]) -> Option<Vec<u8>> {
+    let mut out = vec![0; text.len()];
+    let answer = unsafe {
+        exports::gateway_unrestrict(text.as_ptr(), text.len(), out.as_mut_ptr(), out.len())
+    };
+    coded(answer, &out)
 }

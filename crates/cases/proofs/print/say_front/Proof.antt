@@ -1,25 +1,27 @@
--- `restricted_cases::print::is_filled` meets its contract.
+-- `cases::print::say_front` meets its contract.
 -- Assumes nothing.
 use Prim.Native.Nat.{_-_}
-use lib.ListN.{length}
 use borrow.Author.Needs.{needs}
-use Rattle.restricted_cases.proofs.print.is_filled.Statement.{statement}
-use Rattle.restricted_cases.proofs.print.is_filled.Tie as tie
+use Rattle.cases.proofs.print.say_front.Statement.{statement}
+use Rattle.cases.proofs.print.say_front.Tie as tie
 
 abbrev Inv-loop : tie.InvT-loop
-Inv-loop out from filled i₀ i = Unit
+Inv-loop out n i₀ i = Unit
 
 abbrev μ-loop : tie.MeasureT-loop
-μ-loop out from filled i₀ i = length out - i
+μ-loop out n i₀ i = n - i
 
 loop-holds : tie.Need-loop-holds Inv-loop μ-loop
 loop-holds c = search needs
 
-shared-slice-read-if1 : tie.Need-shared-slice-read-if1 Inv-loop μ-loop
-shared-slice-read-if1 c = search needs
-
 returns : tie.Need-returns Inv-loop μ-loop
 returns c = search needs
+
+shared-slice-read-say-byte : tie.Need-shared-slice-read-say-byte Inv-loop μ-loop
+shared-slice-read-say-byte c = search needs
+
+say-byte-requires : tie.Need-say-byte-requires Inv-loop μ-loop
+say-byte-requires c κs = search needs
 
 add-i : tie.Need-add-i Inv-loop μ-loop
 add-i c = search needs
@@ -33,15 +35,16 @@ loop-again c = search needs
 returns-2 : tie.Need-returns-2 Inv-loop μ-loop
 returns-2 c = search needs
 
-pub is-filled-spec : {M : Type 1} → statement M
-is-filled-spec =
+pub say-front-spec : {M : Type 1} → statement M
+say-front-spec =
     tie.close
     (tie.spec
     Inv-loop
     μ-loop
     loop-holds
-    shared-slice-read-if1
     returns
+    shared-slice-read-say-byte
+    say-byte-requires
     add-i
     loop-less
     loop-again

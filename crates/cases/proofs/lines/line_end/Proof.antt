@@ -1,11 +1,11 @@
--- `restricted_cases::line_end` meets its contract: a line ends within the text.
+-- `cases::lines::line_end` meets its contract: a line ends within the text.
 -- Assumes nothing.
 use borrow.Author.Needs.{needs}
 use native.Mathlib.Omega.{arith}
 use lib.ListN.{drop, length-drop}
 use Rattle.chars.proofs.Laws.Parts.{run-le}
-use Rattle.restricted_cases.proofs.line_end.Statement.{statement}
-use Rattle.restricted_cases.proofs.line_end.Tie as tie
+use Rattle.cases.proofs.lines.line_end.Statement.{statement}
+use Rattle.cases.proofs.lines.line_end.Tie as tie
 
 part-end-requires : tie.Need-part-end-requires
 part-end-requires c κs = search needs
@@ -13,7 +13,11 @@ part-end-requires c κs = search needs
 returns : tie.Need-returns
 returns c =
     let a = c .before .before .args in
-    omega (arith, c .part-end .ensures, run-le 10 (drop (a .from) (a .s .now)), length-drop (a .from) (a .s .now))
+    record {
+      ends = c .part-end .ensures;
+      after = omega (arith, c .part-end .ensures);
+      within = omega (arith, c .part-end .ensures, run-le 10 (drop (a .from) (a .s .now)), length-drop (a .from) (a .s .now));
+    }
 
 pub line-end-spec : {M : Type 1} → statement M
 line-end-spec = tie.close (tie.spec part-end-requires returns)
