@@ -7,10 +7,11 @@ mod input;
 mod print;
 mod witness;
 
+use cases::lines::line_end;
 use input::front;
 use print::print_verdict;
 use soundness::check::check;
-ghost use Prim.Native.Nat.{_<_, _≤_};
+ghost use Prim.Native.Nat.{_≤_};
 ghost use lib.ListN.{length};
 
 // Standard input, at most; a table with one byte too many.
@@ -37,14 +38,6 @@ fn run_table(name: &[u8]) {
     let n = read_table(name, &mut space);
     let table = front(&space, n);
     print_verdict(table, check(table));
-}
-
-// Where the line that starts at a place ends.
-fn line_end(s: &[u8], from: usize) -> usize
-    requires { ⌜ from < length (now s) ⌝ }
-    ensures { λ r. ⌜ (from ≤ r) × (r ≤ length (now (s .entry))) ⌝ }
-{
-    chars::parts::part_end(s, from, b'\n')
 }
 
 fn run(s: &[u8]) {

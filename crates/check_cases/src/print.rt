@@ -1,17 +1,14 @@
 // What the program prints.
 use crate::witness::is_lost;
-use libc::STDOUT_FILENO;
+use cases::print::say;
+use cases::print::say_number;
 use oraddr::record::Record;
 use soundness::check::CheckAnswer;
 use soundness::check::Checked;
 
-fn say(s: &[u8]) {
-    io::write_all(STDOUT_FILENO, s);
-}
-
 fn print_line(line: usize) {
     say(b"7 ");
-    io::print_decimal(STDOUT_FILENO, line as u64);
+    say_number(line);
     say(b"\n");
 }
 

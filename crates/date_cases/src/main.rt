@@ -12,19 +12,10 @@ mod case;
 mod print;
 
 use case::run_line;
-ghost use Prim.Native.Nat.{_<_, _≤_};
-ghost use lib.ListN.{length};
+use cases::lines::line_end;
 
 // Standard input, at most.
 const ROOM: usize = 262144;
-
-// Where the line that starts at a place ends.
-fn line_end(s: &[u8], from: usize) -> usize
-    requires { ⌜ from < length (now s) ⌝ }
-    ensures { λ r. ⌜ (from ≤ r) × (r ≤ length (now (s .entry))) ⌝ }
-{
-    chars::parts::part_end(s, from, b'\n')
-}
 
 fn run(s: &[u8]) {
     let mut from = 0;

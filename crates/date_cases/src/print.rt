@@ -1,17 +1,10 @@
 // What the program prints.
+use cases::print::say;
+use cases::print::say_number;
 use dates::convert::DateAnswer;
 use dates::convert::DateWritten;
-use libc::STDOUT_FILENO;
 ghost use mathlib.Core.Path.{_≡_};
 ghost use lib.ListN.{take};
-
-fn say(s: &[u8]) {
-    io::write_all(STDOUT_FILENO, s);
-}
-
-fn say_number(n: usize) {
-    io::print_decimal(STDOUT_FILENO, n as u64);
-}
 
 // The first n bytes of a buffer, or all of it.
 fn front(out: &[u8], n: usize) -> &[u8]

@@ -1,4 +1,4 @@
-// What the program reads: files by their names, and the lines of a text.
+// What the program reads: files by their names.
 ghost use Prim.Native.Nat.{_≤_};
 ghost use lib.ListN.{length};
 
@@ -13,12 +13,4 @@ pub(crate) fn read_file(name: &[u8], buf: &mut [u8]) -> usize
     let n = io::read_full(fd, buf);
     libc::close(fd);
     n
-}
-
-// Where the line that starts at a place ends.
-pub(crate) fn line_end(s: &[u8], from: usize) -> usize
-    requires { ⌜ from ≤ length (now s) ⌝ }
-    ensures { λ r. ⌜ (from ≤ r) × (r ≤ length (now (s .entry))) ⌝ }
-{
-    chars::parts::part_end(s, from, b'\n')
 }

@@ -6,8 +6,8 @@
 mod feed;
 mod input;
 
+use cases::lines::line_end;
 use feed::feed;
-use input::line_end;
 use input::read_file;
 
 // Standard input, at most; an input, at most; a table with one byte too many.

@@ -11,12 +11,13 @@
 mod print;
 mod settled;
 
+use cases::lines::line_end;
+use cases::print::say;
 use print::print_name;
 use print::print_reading;
-use print::say;
 use settled::base;
 use settled::levels;
-ghost use Prim.Native.Nat.{_<_, _≤_};
+ghost use Prim.Native.Nat.{_≤_};
 ghost use lib.ListN.{length};
 
 // Standard input, at most.
@@ -48,14 +49,6 @@ fn run_line(line: &[u8]) {
     }
     run_case(line);
     say(b"\n");
-}
-
-// Where the line that starts at a place ends.
-fn line_end(s: &[u8], from: usize) -> usize
-    requires { ⌜ from < length (now s) ⌝ }
-    ensures { λ r. ⌜ (from ≤ r) × (r ≤ length (now (s .entry))) ⌝ }
-{
-    chars::parts::part_end(s, from, b'\n')
 }
 
 fn run(s: &[u8]) {

@@ -1,5 +1,5 @@
 // What the program prints of a reading and of a name.
-use libc::STDOUT_FILENO;
+use cases::print::say;
 use oraddr::record::Record;
 use ortext::name::NamePlaces;
 use ortext::name::NameRead;
@@ -18,10 +18,6 @@ ghost use Rattle.ortext.specs.Places.{Placed};
 
 // Room for the longest text of a canonical record.
 const ROOM: usize = 2304;
-
-pub(crate) fn say(s: &[u8]) {
-    io::write_all(STDOUT_FILENO, s);
-}
 
 // The record text of a canonical record.
 fn print_text(rec: Record)
