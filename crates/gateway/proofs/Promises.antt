@@ -49,7 +49,7 @@ use Rattle.restricted.proofs.Laws.Convert.{calls-back}
 use Rattle.lexical.specs.Nesting.{nestsTooDeep}
 use Rattle.lexical.specs.Tokens.{longestLine}
 use Rattle.lexical.proofs.Laws.Depth.{nested, nested-too-deep}
-use Rattle.mailbox.specs.Mailbox.{Bare, bareIn, bareText, mailboxBy, placeIn, readMailbox, reading, readingOf, textBy}
+use Rattle.mailbox.specs.Mailbox.{Bare, bareIn, bareText, mailboxBy, phrasePlace, placeIn, readMailbox, reading, readingOf, textBy}
 use Rattle.mailbox.proofs.Laws.Address.{address-reading}
 use Rattle.mailbox.proofs.Laws.AddressSame.{address-same}
 use Rattle.mailbox.proofs.Laws.Again.{unnamed-text, written-again}
@@ -57,7 +57,7 @@ use Rattle.mailbox.proofs.Laws.Bare.{written-meaning, written-shape}
 use Rattle.router.proofs.Laws.Calls.{call-moves, calls-whole}
 use Rattle.router.proofs.Laws.Line.{loaded-rules}
 use Rattle.gateway.specs.Exports.{addressToText, lengthLimit, packedText, readingToAddress, textResult, textToAddress, textToAddressBy}
-use Rattle.gateway.proofs.Laws.Mailboxes.{result-inside}
+use Rattle.gateway.proofs.Laws.Mailboxes.{place-inside, result-inside}
 use Rattle.gateway.specs.Promises.{Accepted, AddressRules, Dates, Demand1, Demand2, Demand3Exactly, EndsBuffer, EndsRecord, EndsText, Judgement, MailboxRules, Mailboxes, Packing, Promises, RecordRules, Restricted, Router}
 use Rattle.gateway.specs.Texts.{readOutcome, recordOfText, textOfRecord}
 use Rattle.gateway.proofs.Laws.Exports.{not-canonical}
@@ -446,6 +446,10 @@ mailbox-ends s old =
     (λ e. rw e (text-left (2 ∷ 9 ∷ 1 ∷ 6 ∷ []) old 2 refl))
     (λ e. by-test (nestsTooDeep s) (λ f. rw (e, f) (text-left (2 ∷ 9 ∷ 1 ∷ 6 ∷ []) old 9 refl)) (λ f. rw (e, f) (read-ends (bareIn s) old)))
 
+mailbox-place : (s old : List ℕ) → readMailbox s old .text .number ≡ 0 → readMailbox s old .phrase ≡ phrasePlace s
+unfolding readMailbox mailboxBy placeIn phrasePlace
+mailbox-place s old h = rw (le-ltb 0 (textBy (reading s) old .number) (omega arith))
+
 mailbox-rules : (s old : List ℕ) → MailboxRules s old
 unfolding readMailbox mailboxBy reading readingOf textBy placeIn
 mailbox-rules s old =
@@ -455,6 +459,7 @@ mailbox-rules s old =
       one = λ h d e. rw (le-ltb longestLine (length s) h, d, e);
       done = λ b h d e. rw (le-ltb longestLine (length s) h, d, e);
       inside = result-inside s old;
+      place = mailbox-place s old;
       empty-start = λ h. rw (lt-ltb 0 (textBy (reading s) old .number) h);
     }
 
@@ -469,6 +474,8 @@ mailboxes =
       address = address-reading;
       same = address-same;
       again = λ s b h k. (written-again s b h k, unnamed-text b);
+      place-start = λ s. omega (arith, place-inside s .1);
+      place-size = λ s. omega (arith, place-inside s .1);
       nested = nested-too-deep;
     }
 

@@ -38,12 +38,13 @@ use Rattle.restricted.specs.Code.{coded as codedRestricted, decoded as decodedR
 use Rattle.restricted.specs.Convert.{restrictText, unrestrictText}
 use Rattle.lexical.specs.Nesting.{nestsTooDeep}
 use Rattle.lexical.specs.Tokens.{longestLine}
-use Rattle.mailbox.specs.Mailbox.{Bare, bareIn, bareText, emptyStart, localText, read as readAs, readMailbox, reading}
+use Rattle.mailbox.specs.Mailbox.{Bare, bareIn, bareText, emptyStart, localText, phrasePlace, read as readAs, readMailbox, reading}
 use Rattle.mailbox.specs.Needless.{noNeedless}
 use Rattle.router.specs.Line.{answerRoom}
 use Rattle.router.specs.Run.{Calls, Routing, Waits, whole}
 use Rattle.router.specs.declared.run.Routed.{Routed}
 use Rattle.gateway.specs.Exports.{addressToText, lengthLimit, packedText, textToAddress}
+use Rattle.gateway.specs.Mailboxes.{packedPlace}
 use Rattle.gateway.specs.Texts.{recordOfText, textOfRecord}
 
 -- ---- demand 1: "a result or a numbered refusal; a refusal returns an empty record or length 0 and leaves the lent buffer as it was"
@@ -197,6 +198,7 @@ pub record MailboxRules (s old : List ℕ) : Type 0 where
   pub done : (b : Bare) → length s ≤ longestLine → nestsTooDeep s ≡ false → bareIn s ≡ some b → readMailbox s old .text ≡ placedText (bareText b) old
   -- the phrase stands in the line; "with none or refused, that line's empty start"
   pub inside : readMailbox s old .phrase .start + readMailbox s old .phrase .size ≤ length s
+  pub place : readMailbox s old .text .number ≡ 0 → readMailbox s old .phrase ≡ phrasePlace s
   pub empty-start : 0 < readMailbox s old .text .number → readMailbox s old .phrase ≡ emptyStart
 
 -- an address with no phrase
@@ -219,6 +221,9 @@ pub record Mailboxes : Type 0 where
   -- what was written reads as itself
   pub again : (s : List ℕ) (b : Bare) → bareIn s ≡ some b → length s ≤ longestLine
       → (reading (bareText b) ≡ readAs (addressOnly (b .local) (b .isQuoted) (b .domain))) × (bareText (addressOnly (b .local) (b .isQuoted) (b .domain)) ≡ bareText b)
+  -- start and length are read off the one value for C
+  pub place-start : (s : List ℕ) → packedPlace (phrasePlace s) / 65536 ≡ phrasePlace s .start
+  pub place-size : (s : List ℕ) → packedPlace (phrasePlace s) % 65536 ≡ phrasePlace s .size
   -- nesting is counted exactly
   pub nested : (n : ℕ) → nestsTooDeep (replicate n 40 ++ (replicate n 41 ++ bytes "a@b")) ≡ ltb 8 n
 
