@@ -8,7 +8,7 @@ use mathlib.Core.Option.{Option, none, some}
 use lib.Dec.{eqb, ltb}
 use lib.ListN.{length, take, drop}
 use Rattle.chars.specs.Parts.{Place}
-use Rattle.chars.specs.Write.{TextResult, Wrote, front}
+use Rattle.chars.specs.Write.{Wrote, front}
 use Rattle.lexical.specs.Answers.{Lexed, Stands, tokensOf}
 use Rattle.lexical.specs.Quoted.{meaningIn, quoted}
 use Rattle.lexical.specs.Tokens.{Token}

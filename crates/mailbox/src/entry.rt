@@ -8,7 +8,7 @@ ghost use mathlib.Core.Path.{_≡_};
 ghost use Prim.Native.Nat.{_≤_};
 ghost use lib.ListN.{length};
 ghost use Rattle.lexical.specs.Tokens.{longestLine};
-ghost use Rattle.mailbox.specs.Answers.{ReadsMailbox, mailboxNumber, refusedRead, toldMailbox, toldPlace, toldWritten};
+ghost use Rattle.mailbox.specs.Answers.{mailboxNumber, refusedRead, toldMailbox, toldPlace, toldWritten};
 ghost use Rattle.mailbox.specs.Mailbox.{bareIn, mailboxBy, phrasePlace, placeBy, readMailbox, readingOf};
 
 // The longest line.

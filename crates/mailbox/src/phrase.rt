@@ -13,7 +13,7 @@ ghost use Prim.Native.Nat.{_≤_};
 ghost use lib.ListN.{length};
 ghost use Rattle.lexical.specs.Answers.{Stands, tokensOf};
 ghost use Rattle.lexical.specs.Tokens.{longestLine};
-ghost use Rattle.mailbox.specs.Answers.{ReadsMailbox, ReadsPhrase, isEndKind, isSpecialKind, isWordKind, namedBy, noRead, wholeRead};
+ghost use Rattle.mailbox.specs.Answers.{ReadsMailbox, ReadsPhrase, isEndKind, isSpecialKind, namedBy, noRead, wholeRead};
 ghost use Rattle.mailbox.specs.Grammar.{addrSpec, phraseFrom, whole};
 ghost use Rattle.mailbox.specs.Mailbox.{bareIn, bareOf};
 

@@ -116,6 +116,7 @@ fn put_word(dst: &mut [u8], at: usize, s: &[u8], t: Lexeme) -> usize
     }
 }
 
+// Writes a word's text, and reads the token behind it.
 fn put_and_next(dst: &mut [u8], at: usize, s: &[u8], t: Lexeme) -> WordPut
     requires { ⌜ Stands (now s) t ⌝ }
     requires { ⌜ (at ≤ t .start) × (length (now s) ≤ length (now dst)) ⌝ }

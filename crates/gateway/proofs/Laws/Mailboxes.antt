@@ -1,7 +1,6 @@
 -- Laws of mailboxes for the entry points: the phrase stands in the line, and what is shown of it.
 -- Assumes nothing.
 use mathlib.Core.Path.{_≡_, refl, ap, _∙_}
-use mathlib.Core.Bool.{Bool, true, false, cond}
 use mathlib.Core.List.{List}
 use mathlib.Core.Option.{Option, none, some}
 use Prim.Native.Nat.{ℕ, _+_, _-_, _≤_, _<_}
@@ -16,13 +15,13 @@ use Rattle.chars.proofs.Laws.Lists.{by-test}
 use Rattle.lexical.specs.Nesting.{nestsTooDeep}
 use Rattle.lexical.specs.Tokens.{longestLine}
 use Rattle.mailbox.specs.Answers.{mailboxNumber, toldPlace, toldWritten}
-use Rattle.mailbox.specs.Mailbox.{Bare, MailboxResult, bareIn, emptyStart, mailboxBy, phrasePlace, placeBy, placeIn, readMailbox, reading, readingOf, textBy}
+use Rattle.mailbox.specs.Mailbox.{Bare, MailboxResult, bareIn, mailboxBy, phrasePlace, placeBy, placeIn, readMailbox, reading, readingOf, textBy}
 use Rattle.mailbox.specs.declared.entry.MailboxAnswer.{MailboxAnswer}
 use Rattle.mailbox.specs.declared.entry.MailboxAnswer.the-variants as mailbox-answer
 use Rattle.mailbox.specs.declared.entry.MailboxWritten.{MailboxWritten}
 use Rattle.mailbox.specs.declared.phrase.PhrasePlace.{PhrasePlace}
 use Rattle.mailbox.proofs.Laws.Bare.{phrase-inside}
-use Rattle.gateway.specs.Mailboxes.{Part, Shows}
+use Rattle.gateway.specs.Mailboxes.{Shows}
 
 pub mailbox-small : (a : MailboxAnswer) → mailboxNumber a < 16
 mailbox-small mailbox-answer.Done = omega arith

@@ -1,10 +1,10 @@
 -- Nesting is counted exactly: n opening parentheses nest n deep, also where they close again.
 -- Assumes nothing.
 use mathlib.Core.Path.{_≡_, refl, _∙_}
-use mathlib.Core.Bool.{Bool, false}
+use mathlib.Core.Bool.{false}
 use mathlib.Core.List.{List, [], _∷_, _++_, append-nil}
-use Prim.Native.Nat.{ℕ, zero, suc, _+_, _≤_, max}
-use native.Mathlib.Nat.{add-zero, le-max-left, max-eq-left, max-eq-right, zero-add}
+use Prim.Native.Nat.{ℕ, zero, suc, _+_, max}
+use native.Mathlib.Nat.{add-zero, max-eq-left, max-eq-right, zero-add}
 use native.Mathlib.Omega.{arith}
 use lib.Dec.{ltb}
 use lib.ListN.{replicate}

@@ -10,7 +10,7 @@ use native.Mathlib.Omega.{arith}
 use borrow.Author.Tests.{eqb-true}
 use lib.Dec.{eqb}
 use lib.ListN.{length, drop, getD, drop-of-length-le}
-use lib.Seq.{drop-cons, drop-drop, getD-drop}
+use lib.Seq.{drop-cons}
 use Rattle.chars.proofs.Laws.Lists.{and-three, by-test, or-cases, true-not-false}
 use Rattle.chars.proofs.Laws.Seq.{beyond, byte-inside, second, third}
 use Rattle.mailaddr.specs.Shape.{isText}

@@ -1,8 +1,8 @@
 -- Laws of words joined by dots: one word at a time, by lexemes, with the text of what was read so far.
 -- Assumes nothing.
 use mathlib.Core.Path.{_≡_, refl, sym, ap, _∙_}
-use mathlib.Core.Bool.{Bool, true, false, _||_, not, cond, or-assoc, or-false}
-use mathlib.Core.List.{List, [], _∷_, _++_, append-assoc, map}
+use mathlib.Core.Bool.{Bool, true, false, _||_, not, or-assoc, or-false}
+use mathlib.Core.List.{List, [], _∷_, _++_, append-assoc}
 use mathlib.Core.Option.{Option, none, some}
 use Prim.Native.Nat.{ℕ, _+_, _≤_, _<_}
 use lib.Dec.{eqb}
@@ -13,9 +13,9 @@ use Rattle.chars.specs.Write.{Wrote}
 use Rattle.chars.proofs.Laws.Write.{wrote-take}
 use Rattle.chars.specs.Parts.{join}
 use Rattle.chars.proofs.Laws.Lists.{by-test, true-not-false}
-use Rattle.lexical.specs.Answers.{Stands, atomWord, quotedWord, tokensBy, tokensOf}
+use Rattle.lexical.specs.Answers.{atomWord, quotedWord, tokensBy, tokensOf}
 use Rattle.lexical.specs.Tokens.{Token, Word, bad, special, tokensAt, word}
-use Rattle.mailbox.specs.Answers.{DottedText, after, isAllowedKind, isQuotedKind, isSpecialKind, isWordKind, meaningAt}
+use Rattle.mailbox.specs.Answers.{after, isAllowedKind, isQuotedKind, isSpecialKind, meaningAt}
 use Rattle.mailbox.specs.Grammar.{Dotted, allowed, alone, anyQuoted, before, dotted, meaningOf}
 use Rattle.lexical.specs.declared.token.Kind.{Kind}
 use Rattle.lexical.specs.declared.token.Kind.the-variants.{Atom, Bad, End, Quoted, Special}

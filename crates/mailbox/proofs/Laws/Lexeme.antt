@@ -1,19 +1,17 @@
 -- Laws of lexemes: the tokens that begin with one, by its kind, and how long the text of one is.
 -- Assumes nothing.
-use mathlib.Core.Path.{_≡_, refl, sym, ap, _∙_}
+use mathlib.Core.Path.{_≡_, refl, sym}
 use mathlib.Core.Bool.{Bool, true, false}
-use mathlib.Core.List.{List, [], _∷_}
+use mathlib.Core.List.{List, _∷_}
 use Prim.Native.Nat.{ℕ, _+_, _-_, _≤_, _<_}
 use native.Mathlib.Omega.{arith}
 use borrow.Author.Tests.{eqb-true}
-use lib.ListN.{length, take, drop, length-take}
+use lib.ListN.{length, drop, length-take}
 use Rattle.chars.proofs.Laws.Lists.{true-not-false}
 use Rattle.lexical.proofs.Laws.Quoted.{meaning-within}
 use Rattle.lexical.specs.Answers.{Closed, Stands, Whole, atomWord, quotedWord, tokensBy, tokensOf}
-use Rattle.lexical.specs.Quoted.{meaningIn, quoted, sizeIn}
-use Rattle.lexical.specs.Tokens.{Token, Word, bad, special, tokensAt, word}
+use Rattle.lexical.specs.Tokens.{Word, special, tokensAt, word}
 use Rattle.mailbox.specs.Answers.{isAllowedKind, isQuotedKind, isSpecialKind, isWordKind, meaningAt, meaningBy}
-use Rattle.mailbox.specs.Grammar.{allowed}
 use Rattle.lexical.specs.declared.token.Kind.{Kind}
 use Rattle.lexical.specs.declared.token.Kind.the-variants.{Atom, Bad, End, Quoted, Special}
 use Rattle.lexical.specs.declared.token.Lexeme.{Lexeme}

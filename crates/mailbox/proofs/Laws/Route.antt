@@ -1,17 +1,17 @@
 -- Laws of a route: one lexeme at a time.
 -- Assumes nothing.
-use mathlib.Core.Path.{_≡_, refl, sym, ap, _∙_}
-use mathlib.Core.Bool.{Bool, true, false, cond}
-use mathlib.Core.List.{List, [], _∷_}
-use mathlib.Core.Option.{Option, none, some}
-use Prim.Native.Nat.{ℕ, _≤_, _<_}
+use mathlib.Core.Path.{_≡_, refl, sym}
+use mathlib.Core.Bool.{Bool, true, false}
+use mathlib.Core.List.{List, _∷_}
+use mathlib.Core.Option.{none, some}
+use Prim.Native.Nat.{ℕ, _<_}
 use borrow.Author.Tests.{eqb-true}
 use lib.Dec.{eqb}
 use Rattle.chars.proofs.Laws.Lists.{by-test, true-not-false}
 use Rattle.lexical.specs.Answers.{Stands, Whole, atomWord, quotedWord, tokensBy, tokensOf}
-use Rattle.lexical.specs.Tokens.{Token, Word, bad, special, tokensAt, word}
-use Rattle.mailbox.specs.Answers.{atomStep, behindStep, elementStep, isBroken, isLive, isOver, isWordKind, routeBy, routeStep, specialStep}
-use Rattle.mailbox.specs.Grammar.{InRoute, behindSubDomain, element, optionalRoute, route, subDomain}
+use Rattle.lexical.specs.Tokens.{Token, special, tokensAt}
+use Rattle.mailbox.specs.Answers.{behindStep, elementStep, isBroken, isLive, isOver, isWordKind, routeBy, routeStep}
+use Rattle.mailbox.specs.Grammar.{behindSubDomain, element, optionalRoute, route}
 use Rattle.mailbox.specs.declared.route.RouteState.{RouteState}
 use Rattle.mailbox.specs.declared.route.RouteState.the-variants.{Behind, Broken, Element, Over, Start, SubDomain}
 use Rattle.lexical.specs.declared.token.Kind.{Kind}

@@ -11,8 +11,9 @@ use lib.Dec.{eqb}
 use lib.ListN.{length, take, drop, length-append, length-take}
 use lib.Seq.{drop-append-seam, take-append-seam, take-take}
 use Rattle.chars.proofs.Laws.Lists.{by-test, or-cases, true-not-false}
-use Rattle.lexical.specs.Answers.{Stands, atomWord, quotedWord, tokensBy, tokensOf}
-use Rattle.lexical.specs.Tokens.{Token, Word, bad, special, tokensAt, word}
+use Rattle.mailaddr.proofs.Laws.Closing.{neither}
+use Rattle.lexical.specs.Answers.{Stands, tokensBy, tokensOf}
+use Rattle.lexical.specs.Tokens.{Token, Word, tokensAt, word}
 use Rattle.mailbox.specs.Answers.{DottedText, ReadsMailbox, ReadsSpec, SpecText, after, domainText, isEndKind, isSpecialKind, isWordKind, namedBy, noSpec, specText, toldDotted, toldMailbox, toldRoute, toldSpec, wholeRead}
 use Rattle.mailbox.specs.Grammar.{AddrSpec, Dotted, Mailbox, addrSpec, addrSpecIn, allowed, anyQuoted, atDomain, behind, closedBy, domain, dotted, ended, goingOn, localPart, mailbox, meaningOf, named, optionalRoute, orElse, phraseFrom, routeAddr, routeIn, whole, withDomain, withLocal}
 use Rattle.mailbox.specs.Mailbox.{Bare, bareOf}
@@ -25,14 +26,6 @@ use Rattle.lexical.specs.declared.token.Kind.the-variants.{Atom, Bad, End, Quot
 use Rattle.lexical.specs.declared.token.Lexeme.{Lexeme}
 use Rattle.mailbox.proofs.Laws.Dotted.{dotted-alone}
 use Rattle.mailbox.proofs.Laws.Lexeme.{special-tokens, word-tokens, wordAt}
-
-neither-left : (a b : Bool) → (a || b) ≡ false → a ≡ false
-neither-left true b h = h
-neither-left false b h = refl
-
-neither-right : (a b : Bool) → (a || b) ≡ false → b ≡ false
-neither-right true b h = true-not-false true refl h
-neither-right false b h = h
 
 -- ---- behind a special
 
@@ -346,7 +339,7 @@ module _ (s : List ℕ) (t u : Lexeme) (h : isWordKind (t .kind) ≡ true) (l : 
       → mailbox (tokensOf s t) ≡ namedBy (t .start) (phraseFrom (t .end) (tokensOf s u))
   unfolding mailbox whole orElse
   mailbox-named g =
-      let n = no-addr-spec (neither-left (isSpecialKind (u .kind) 46) (isSpecialKind (u .kind) 64) g) (neither-right (isSpecialKind (u .kind) 46) (isSpecialKind (u .kind) 64) g) in
+      let n = no-addr-spec (neither (isSpecialKind (u .kind) 46) (isSpecialKind (u .kind) 64) g .0) (neither (isSpecialKind (u .kind) 46) (isSpecialKind (u .kind) 64) g .1) in
       rw n (ap named two-tokens ∙ named-by s (wordAt s t) u)
 
 -- a first token that is no word

@@ -1,10 +1,8 @@
 -- `gateway::exports::gateway_phrase` meets its contract.
 -- Assumes nothing.
-use mathlib.Core.Path.{_≡_, ap}
-use Prim.Native.Nat.{ℕ, _≤_, _+_}
+use mathlib.Core.Path.{ap}
 use native.Mathlib.Omega.{arith}
 use borrow.Author.Needs.{needs}
-use Rattle.chars.specs.Parts.{Place}
 use Rattle.gateway.specs.Mailboxes.{packedPlace}
 use Rattle.gateway.proofs.Laws.Mailboxes.{place-small}
 use Rattle.gateway.proofs.exports.gateway_phrase.Statement.{statement}

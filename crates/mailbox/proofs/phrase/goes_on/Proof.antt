@@ -1,7 +1,6 @@
 -- `mailbox::phrase::goes_on` meets its contract.
 -- Assumes nothing.
 use mathlib.Core.Path.{sym, _∙_}
-use mathlib.Core.Bool.{_||_}
 use borrow.Author.Needs.{needs}
 use Rattle.mailbox.proofs.phrase.goes_on.Statement.{statement}
 use Rattle.mailbox.proofs.phrase.goes_on.Tie as tie

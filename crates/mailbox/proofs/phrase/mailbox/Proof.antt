@@ -1,16 +1,11 @@
 -- `mailbox::phrase::mailbox` meets its contract: what stands behind the first word says which of the two a mailbox can be.
 -- Assumes nothing.
-use mathlib.Core.Path.{_≡_, refl, sym, ap, _∙_}
-use mathlib.Core.List.{List}
-use mathlib.Core.Option.{Option}
+use mathlib.Core.Path.{refl, sym, _∙_}
 use native.Mathlib.Omega.{arith}
 use borrow.Author.Needs.{needs}
 use Rattle.chars.proofs.Laws.Lists.{failed, passed}
-use Rattle.lexical.specs.Answers.{tokensOf}
-use Rattle.mailbox.specs.Answers.{ReadsMailbox, toldMailbox}
-use Rattle.mailbox.specs.Grammar.{Mailbox, mailbox}
+use Rattle.mailbox.specs.Answers.{toldMailbox}
 use Rattle.mailbox.specs.Mailbox.{bareIn, bareOf}
-use Rattle.lexical.specs.Tokens.{Token}
 use Rattle.mailbox.proofs.Laws.Spec.{mailbox-bare, mailbox-named, mailbox-none}
 use Rattle.mailbox.proofs.phrase.mailbox.Statement.{statement}
 use Rattle.mailbox.proofs.phrase.mailbox.Tie as tie

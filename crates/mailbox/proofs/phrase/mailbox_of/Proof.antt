@@ -1,7 +1,5 @@
 -- `mailbox::phrase::mailbox_of` meets its contract.
 -- Assumes nothing.
-use mathlib.Core.Path.{_≡_, sym, _∙_}
-use mathlib.Core.Bool.{true, false}
 use borrow.Author.Needs.{needs}
 use borrow.Author.Tests.{not-false, not-true}
 use Rattle.chars.proofs.Laws.Lists.{failed, passed}

@@ -1,13 +1,12 @@
 -- `mailbox::phrase::named` meets its contract.
 -- Assumes nothing.
-use mathlib.Core.Path.{_≡_, ap, sym}
+use mathlib.Core.Path.{sym}
 use Prim.Native.Nat.{_-_}
 use native.Mathlib.Omega.{arith}
 use borrow.Author.Needs.{needs}
 use Rattle.lexical.specs.Answers.{tokensOf}
-use Rattle.mailbox.specs.Answers.{ReadsMailbox, namedBy, toldPhrase}
-use Rattle.mailbox.specs.Grammar.{Phrase, routeAddr}
-use Rattle.mailbox.specs.Mailbox.{bareOf}
+use Rattle.mailbox.specs.Answers.{namedBy, toldPhrase}
+use Rattle.mailbox.specs.Grammar.{routeAddr}
 use Rattle.mailbox.proofs.Laws.Spec.{mailbox-reads}
 use Rattle.mailbox.proofs.phrase.named.Statement.{statement}
 use Rattle.mailbox.proofs.phrase.named.Tie as tie

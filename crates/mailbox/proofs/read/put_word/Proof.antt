@@ -1,6 +1,5 @@
 -- `mailbox::read::put_word` meets its contract.
 -- Assumes nothing.
-use mathlib.Core.Path.{sym}
 use native.Mathlib.Omega.{arith}
 use borrow.Author.Needs.{needs}
 use Rattle.chars.proofs.Laws.Write.{wrote-nothing}

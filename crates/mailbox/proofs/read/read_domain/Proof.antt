@@ -8,7 +8,7 @@ use borrow.Author.Needs.{needs}
 use borrow.Author.Tests.{not-false, not-true}
 use lib.ListN.{take, length}
 use lib.Seq.{length-take-le}
-use Rattle.mailbox.specs.Answers.{after, noSpec, toldDotted, toldSpec}
+use Rattle.mailbox.specs.Answers.{after, toldDotted}
 use Rattle.mailbox.specs.Grammar.{allowed, dotted}
 use Rattle.lexical.specs.Tokens.{Token, tokensAt}
 use Rattle.mailbox.proofs.Laws.Spec.{domain-read, domain-unread, unread}

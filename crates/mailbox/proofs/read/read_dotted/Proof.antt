@@ -2,19 +2,17 @@
 -- is what all of them give; and the text is no longer than what it was read from.
 -- Assumes nothing.
 use mathlib.Core.Path.{_≡_, refl, sym, ap, _∙_}
-use mathlib.Core.Bool.{Bool, true, false, _||_}
-use mathlib.Core.List.{List, [], _∷_, _++_}
-use mathlib.Core.Option.{Option}
-use Prim.Native.Nat.{ℕ, _+_, _-_, _≤_, _<_}
+use mathlib.Core.Bool.{Bool, false, _||_}
+use mathlib.Core.List.{_++_}
+use Prim.Native.Nat.{_+_, _-_, _≤_, _<_}
 use native.Mathlib.Omega.{arith}
 use borrow.Author.Needs.{needs}
 use lib.ListN.{length, take, length-set}
 use Rattle.chars.proofs.Laws.Lists.{failed, passed}
 use Rattle.chars.proofs.Laws.Write.{wrote-length, wrote-take}
 use Rattle.lexical.specs.Answers.{Stands, tokensOf}
-use Rattle.lexical.specs.Tokens.{Token}
-use Rattle.mailbox.specs.Answers.{after, isAllowedKind, isQuotedKind, isSpecialKind, meaningAt, toldDotted}
-use Rattle.mailbox.specs.Grammar.{Dotted, allowed, dotted}
+use Rattle.mailbox.specs.Answers.{after, isQuotedKind, meaningAt, toldDotted}
+use Rattle.mailbox.specs.Grammar.{allowed, dotted}
 use Rattle.mailbox.proofs.Laws.Dotted.{after-dot, after-last, dotted-none, text-grown}
 use Rattle.mailbox.proofs.Laws.Lexeme.{allowed-word, meaning-length, special-ahead, word-ahead}
 use Rattle.mailbox.proofs.read.read_dotted.Statement.{statement}

@@ -1,6 +1,6 @@
 -- `mailbox::route::element_step` meets its contract.
 -- Assumes nothing.
-use borrow.Author.Tests.{eq-eqb, ne-eqb}
+use borrow.Author.Tests.{ne-eqb}
 use Rattle.mailbox.proofs.route.element_step.Statement.{statement}
 use Rattle.mailbox.proofs.route.element_step.Tie as tie
 

@@ -1,6 +1,6 @@
 -- `mailbox::route::optional_route` meets its contract.
 -- Assumes nothing.
-use mathlib.Core.Path.{_≡_, sym, _∙_}
+use mathlib.Core.Path.{sym, _∙_}
 use borrow.Author.Needs.{needs}
 use Rattle.mailbox.specs.Answers.{toldRoute}
 use Rattle.mailbox.proofs.Laws.Route.{no-route, optional-route-is}

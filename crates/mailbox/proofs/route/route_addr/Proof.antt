@@ -1,6 +1,6 @@
 -- `mailbox::route::route_addr` meets its contract.
 -- Assumes nothing.
-use mathlib.Core.Path.{_≡_, sym, _∙_}
+use mathlib.Core.Path.{sym, _∙_}
 use borrow.Author.Needs.{needs}
 use borrow.Author.Tests.{not-false, not-true}
 use Rattle.chars.proofs.Laws.Lists.{failed, passed}

@@ -10,7 +10,7 @@ use borrow.Author.Needs.{needs}
 use lib.ListN.{length}
 use Rattle.lexical.specs.Answers.{Stands, tokensOf}
 use Rattle.lexical.specs.Tokens.{Token, tokensAt}
-use Rattle.mailbox.specs.Answers.{isBroken, isLive, isOver, routeBy, routeStep, toldRoute}
+use Rattle.mailbox.specs.Answers.{isBroken, isLive, isOver, routeBy, toldRoute}
 use Rattle.mailbox.specs.Grammar.{element, route}
 use Rattle.mailbox.specs.declared.route.RouteState.{RouteState}
 use Rattle.mailbox.proofs.Laws.Route.{broken-none, over-some, route-ahead, route-steps}
