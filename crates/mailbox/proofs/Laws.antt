@@ -6,6 +6,7 @@ pub mod Bare
 pub mod Depth
 pub mod Dotted
 pub mod Grammar
+pub mod Hops
 pub mod Lexeme
 pub mod Route
 pub mod Spec
