@@ -1,20 +1,18 @@
--- Laws of extending a row's domain as the code counts it, of the levels that are added one at a time, and of the parts of a domain in
--- front of its tail.
+-- Laws of the levels that are added one at a time, and of the parts of a domain in front of its tail.
 -- Assumes nothing.
 use mathlib.Core.Path.{_≡_, refl, sym, ap, ap₂, _∙_}
 use mathlib.Core.Bool.{true, false, cond}
 use mathlib.Core.List.{List, [], _∷_, _++_, reverse}
 use mathlib.Core.Option.{Option, some}
 use Prim.Native.Nat.{ℕ, zero, suc, _+_, _-_, _≤_, _<_}
-use native.Mathlib.Nat.{add-zero, le-of-suc-le-suc}
+use native.Mathlib.Nat.{add-zero}
 use native.Mathlib.Numerals.{add-one}
 use native.Mathlib.Omega.{arith}
 use borrow.Author.Tests.{le-ltb, lt-ltb}
 use lib.Dec.{eqb}
 use lib.ListN.{length, take, drop, getD, drop-of-length-le, length-append, length-map, length-reverse}
-use lib.Seq.{drop-at, drop-cons, split-at}
+use lib.Seq.{drop-at, split-at}
 use Rattle.chars.specs.Case.{foldText, sameText}
-use Rattle.chars.specs.Domain.{isDomainPart}
 use Rattle.chars.specs.Lists.{nonEmpty}
 use Rattle.chars.specs.Parts.{run, split}
 use Rattle.mailaddr.specs.Domain.{partsOf}
@@ -25,9 +23,9 @@ use Rattle.oraddr.specs.declared.add.Added.the-variants.{Done, Refused}
 use Rattle.oraddr.specs.declared.add.Addition.{Addition}
 use Rattle.oraddr.specs.declared.record.Record.{Record}
 use Rattle.table.specs.Table.{Row, Token}
-use Rattle.table.specs.Rows.{Inside, between, placesAt, rowAt, rowsAt}
-use Rattle.table.specs.Lookup.{begins, byDomain, extension, resolve, settledBy}
-use Rattle.table.specs.Looked.{Looked, foundRow, tokensFrom, tokensOf}
+use Rattle.table.specs.Rows.{Inside, placesAt, rowAt, rowsAt}
+use Rattle.table.specs.Lookup.{begins, byDomain, resolve, settledBy}
+use Rattle.table.specs.Looked.{Looked, foundRow}
 use Rattle.table.specs.Settle.{addLevel, addLevels, answerOf, begun, leftParts, noRow, pastBound, pastUnits, settledAs, settledFrom, settlementAnswer, settling}
 use Rattle.table.specs.declared.lookup.Found.the-variants.{At, Nowhere}
 use Rattle.table.specs.declared.settle.Settled.{Settled}
@@ -35,42 +33,6 @@ use Rattle.table.specs.declared.settle.Settlement.{Settlement}
 use Rattle.table.proofs.Laws.Fields.{between-length}
 use Rattle.table.proofs.Laws.Lookup.{found-begins}
 use Rattle.table.proofs.Laws.Tails.{fold-parts, parts-append, tail-place}
-
--- ---- extending a row's domain
-
-pub tokens-length : (s ends : List ℕ) (k n : ℕ) → length (tokensFrom s ends k n) ≡ n
-unfolding tokensFrom
-tokens-length s ends k zero = refl
-tokens-length s ends k (suc n) = ap suc (tokens-length s ends (suc k) n)
-
-token-at : (s ends : List ℕ) (k n i : ℕ) → i < n → getD (tokensFrom s ends k n) i [] ≡ between s (getD ends (k + i) 0) (getD ends (suc (k + i)) 0)
-unfolding tokensFrom
-token-at s ends k zero i h = absurd (omega arith)
-token-at s ends k (suc n) zero h = rw (add-zero k)
-token-at s ends k (suc n) (suc i) h = let e : suc k + i ≡ k + suc i = omega arith in token-at s ends (suc k) n i (le-of-suc-le-suc h) ∙ rw e
-
-module _ (s ends : List ℕ) (i : ℕ) (h : i < 8) where
-  tokens-first : drop i (tokensOf s ends) ≡ between s (getD ends i 0) (getD ends (i + 1) 0) ∷ drop (i + 1) (tokensOf s ends)
-  unfolding tokensOf
-  tokens-first =
-      let e : 0 + i ≡ i = omega arith in
-      drop-cons (tokensFrom s ends 0 8) i [] (omega (arith, tokens-length s ends 0 8))
-      ∙ rw (add-one i) (ap (λ (t : Token). t ∷ drop (suc i) (tokensFrom s ends 0 8)) (token-at s ends 0 8 i h ∙ rw e))
-
-  pub extension-ends : isDomainPart (between s (getD ends i 0) (getD ends (i + 1) 0)) ≡ false → length (extension (drop i (tokensOf s ends))) ≡ 0
-  unfolding extension
-  extension-ends e = rw (tokens-first, e)
-
-  pub extension-more : isDomainPart (between s (getD ends i 0) (getD ends (i + 1) 0)) ≡ true
-      → length (extension (drop i (tokensOf s ends))) ≡ suc (length (extension (drop (i + 1) (tokensOf s ends))))
-  unfolding extension
-  extension-more e = rw (tokens-first, e)
-
-pub extension-past : (s ends : List ℕ) (i : ℕ) → 8 ≤ i → length (extension (drop i (tokensOf s ends))) ≡ 0
-unfolding extension tokensOf
-extension-past s ends i h =
-    let l : length (tokensFrom s ends 0 8) ≤ i = omega (arith, tokens-length s ends 0 8) in
-    rw (drop-of-length-le (tokensFrom s ends 0 8) l)
 
 -- ---- a token at a level
 

@@ -28,7 +28,7 @@ use Rattle.table.proofs.Laws.Fields.{between-length, fields-in, fields-
 use Rattle.table.proofs.Laws.Lookup.{begins-length}
 use Rattle.table.proofs.Laws.Paths.{ended-less}
 use Rattle.table.proofs.Laws.Rows.{tab-other}
-use Rattle.table.proofs.Laws.Settle.{tokens-length}
+use Rattle.table.proofs.Laws.Extension.{tokens-length}
 
 -- ---- the tag of a text
 

@@ -8,7 +8,7 @@ use Rattle.chars.proofs.Laws.Lists.{failed, passed}
 use Rattle.table.specs.Rows.{between}
 use Rattle.table.specs.Lookup.{extension}
 use Rattle.table.specs.Looked.{tokensOf}
-use Rattle.table.proofs.Laws.Settle.{extension-ends, extension-more, extension-past}
+use Rattle.table.proofs.Laws.Extension.{extension-ends, extension-more, extension-past}
 use borrow.Author.Needs.{needs}
 use Rattle.table.proofs.extend.count_extension.Statement.{statement}
 use Rattle.table.proofs.extend.count_extension.Tie as tie
