@@ -10,7 +10,7 @@ mod witness;
 use cases::lines::line_end;
 use input::front;
 use print::print_verdict;
-use soundness::check::check;
+use soundness_check::check::check;
 ghost use Prim.Native.Nat.{_≤_};
 ghost use lib.ListN.{length};
 

@@ -3,8 +3,8 @@ use crate::witness::is_lost;
 use cases::print::say;
 use cases::print::say_number;
 use oraddr::record::Record;
-use soundness::check::CheckAnswer;
-use soundness::check::Checked;
+use soundness::answers::CheckAnswer;
+use soundness::answers::Checked;
 
 fn print_line(line: usize) {
     say(b"7 ");

@@ -1,9 +1,9 @@
 // What becomes of a witness when both mappings are run on it.
 use crate::input::front;
-use mapping::to_address::AddressAnswer;
-use mapping::to_address::record_to_address;
-use mapping::to_record::RecordAnswer;
-use mapping::to_record::address_to_record;
+use mapping::answers::AddressAnswer;
+use mapping::answers::RecordAnswer;
+use mapping_to_address::to_address::record_to_address;
+use mapping_to_record::to_record::address_to_record;
 use oraddr::bounds::S;
 use oraddr::record::Record;
 

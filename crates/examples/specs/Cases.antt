@@ -11,10 +11,10 @@ use Rattle.oraddr.specs.Bounds.{ADMD}
 use Rattle.oraddr.specs.Canonical.{canonical}
 use Rattle.oraddr.specs.View.{emptyRecord, view}
 use Rattle.oraddr.specs.Add.{addDd}
-use Rattle.ortext.specs.Apply.{Reading, unread, refused, again, read, readText}
-use Rattle.ortext.specs.Keys.{keys}
-use Rattle.ortext.specs.Name.{Name, readName}
-use Rattle.ortext.specs.Write.{localText, writesShort}
+use Rattle.ortext_read.specs.Apply.{Reading, unread, refused, again, read, readText}
+use Rattle.ortext_segments.specs.Keys.{keys}
+use Rattle.ortext_name.specs.Name.{Name, readName}
+use Rattle.ortext_write.specs.Write.{localText, writesShort}
 use Rattle.mailaddr.specs.Code.{coded, decoded}
 use Rattle.mailaddr.specs.Shape.{Address, shapeOf}
 

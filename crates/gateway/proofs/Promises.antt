@@ -18,10 +18,10 @@ use Rattle.chars.proofs.Laws.Write.{drop-front, length-front}
 use Rattle.oraddr.specs.Canonical.{canonicalRecord}
 use Rattle.oraddr.specs.View.{emptyRecord, view}
 use Rattle.oraddr.specs.declared.record.Record.{Record}
-use Rattle.ortext.specs.Apply as apply
-use Rattle.ortext.specs.Apply.{again, read, readText, refused, unread}
-use Rattle.ortext.specs.Keys.{keys}
-use Rattle.ortext.specs.Write.{recordText}
+use Rattle.ortext_read.specs.Apply as apply
+use Rattle.ortext_read.specs.Apply.{again, read, readText, refused, unread}
+use Rattle.ortext_segments.specs.Keys.{keys}
+use Rattle.ortext_write.specs.Write.{recordText}
 use Rattle.mailaddr.specs.Answers.{Shaping, fromShape, noShape, shaped, shaping, tooLong}
 use Rattle.mailaddr.specs.Code.{coded}
 use Rattle.mailaddr.specs.Shape.{Address, longestAddress, shapeOf}
@@ -55,7 +55,7 @@ use Rattle.mailbox.proofs.Laws.AddressSame.{address-same}
 use Rattle.mailbox.proofs.Laws.Again.{unnamed-text, written-again}
 use Rattle.mailbox.proofs.Laws.Bare.{written-meaning, written-shape}
 use Rattle.router.proofs.Laws.Calls.{call-moves, calls-whole}
-use Rattle.router.proofs.Laws.Line.{loaded-rules}
+use Rattle.router_line.proofs.Laws.Line.{loaded-rules}
 use Rattle.gateway.specs.Exports.{addressToText, lengthLimit, packedText, readingToAddress, textResult, textToAddress, textToAddressBy}
 use Rattle.gateway.proofs.Laws.Mailboxes.{place-inside, result-inside}
 use Rattle.gateway.specs.Promises.{Accepted, AddressRules, Dates, Demand1, Demand2, Demand3Exactly, EndsBuffer, EndsRecord, EndsText, Judgement, MailboxRules, Mailboxes, Packing, Promises, RecordRules, Restricted, Router}

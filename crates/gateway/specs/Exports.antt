@@ -10,9 +10,9 @@ use lib.ListN.{length}
 use Rattle.chars.specs.Write.{TextResult, front}
 use Rattle.oraddr.specs.View.{emptyRecord, view}
 use Rattle.oraddr.specs.declared.record.Record.{Record}
-use Rattle.ortext.specs.Apply.{Reading, again, read, readText, refused, unread}
-use Rattle.ortext.specs.Keys.{keys}
-use Rattle.ortext.specs.Write.{recordText}
+use Rattle.ortext_read.specs.Apply.{Reading, again, read, readText, refused, unread}
+use Rattle.ortext_segments.specs.Keys.{keys}
+use Rattle.ortext_write.specs.Write.{recordText}
 use Rattle.table.specs.Lines.{Loaded, loadedFrom, malformed, wellFormed}
 use Rattle.table.specs.Table.{Table}
 use Rattle.mapping.specs.Results.{AddressResult, RecordResult, malformedAddress, placed, refusedAddress}

@@ -17,7 +17,7 @@ use Rattle.chars.specs.Write.{TextResult, front, placedText, refusedText}
 use Rattle.oraddr.specs.Canonical.{canonicalRecord}
 use Rattle.oraddr.specs.View.{emptyRecord, view}
 use Rattle.oraddr.specs.declared.record.Record.{Record}
-use Rattle.ortext.specs.Apply.{read}
+use Rattle.ortext_read.specs.Apply.{read}
 use Rattle.mailaddr.specs.Code.{coded}
 use Rattle.mailaddr.specs.Shape.{Address, longestAddress, shapeOf, unquotedLocal}
 use Rattle.table.specs.Lines.{loadedFrom, malformed, wellFormed}
@@ -40,7 +40,7 @@ use Rattle.lexical.specs.Nesting.{nestsTooDeep}
 use Rattle.lexical.specs.Tokens.{longestLine}
 use Rattle.mailbox.specs.Mailbox.{Bare, bareIn, bareText, emptyStart, localText, phrasePlace, read as readAs, readMailbox, reading}
 use Rattle.mailbox.specs.Needless.{noNeedless}
-use Rattle.router.specs.Line.{answerRoom}
+use Rattle.router_line.specs.Line.{answerRoom}
 use Rattle.router.specs.Run.{Calls, Routing, Waits, whole}
 use Rattle.router.specs.declared.run.Routed.{Routed}
 use Rattle.gateway.specs.Exports.{addressToText, lengthLimit, packedText, textToAddress}

@@ -7,9 +7,9 @@ use Rattle.oraddr.specs.Add.{Outcome}
 use Rattle.oraddr.specs.Canonical.{canonicalRecord}
 use Rattle.oraddr.specs.View.{emptyRecord, view}
 use Rattle.oraddr.specs.declared.record.Record.{Record}
-use Rattle.ortext.specs.Apply.{Reading, again, read, readText, refused, unread}
-use Rattle.ortext.specs.Keys.{keys}
-use Rattle.ortext.specs.Write.{recordText}
+use Rattle.ortext_read.specs.Apply.{Reading, again, read, readText, refused, unread}
+use Rattle.ortext_segments.specs.Keys.{keys}
+use Rattle.ortext_write.specs.Write.{recordText}
 use Rattle.mapping.specs.Results.{AddressResult, placed, refusedAddress}
 
 -- 4, "the record (or record text) is not canonical": an empty record

@@ -3,23 +3,23 @@ use dates::convert::DateWritten;
 use mailbox::entry::mailbox_number;
 use mailbox::entry::read_mailbox;
 use mailbox::phrase::PhrasePlace;
-use mapping::to_address::AddressAnswer;
-use mapping::to_address::ToAddress;
-use mapping::to_address::place;
-use mapping::to_address::record_to_address;
-use mapping::to_address::refused;
-use mapping::to_record::ToRecord;
-use mapping::to_record::address_to_record;
+use mapping::answers::AddressAnswer;
+use mapping::answers::ToAddress;
+use mapping::answers::ToRecord;
+use mapping::answers::place;
+use mapping::answers::refused;
+use mapping_to_address::to_address::record_to_address;
+use mapping_to_record::to_record::address_to_record;
 use oraddr::add::Added;
 use oraddr::add::Addition;
 use oraddr::add::Attribute;
 use oraddr::record::Record;
-use ortext::read::Answer;
-use ortext::read::read_text;
-use ortext::write::write_text;
+use ortext_read::read::Answer;
+use ortext_read::read::read_text;
+use ortext_write::write::write_text;
 use restricted::convert::RestrictedWritten;
 use router::run::Routed;
-use soundness::check::Checked;
+use soundness::answers::Checked;
 use table::rows::ROWS_SIZE;
 ghost use mathlib.Core.Path.{_≡_};
 ghost use mathlib.Core.Bool.{true};
@@ -29,9 +29,9 @@ ghost use Rattle.oraddr.specs.Add.{addDd, addSingle, addUnit, placeOf, told};
 ghost use Rattle.oraddr.specs.Canonical.{canonicalRecord};
 ghost use Rattle.oraddr.specs.View.{emptyRecord, view};
 ghost use Rattle.oraddr.specs.declared.add.Added.the-variants.{Refused};
-ghost use Rattle.ortext.specs.Apply.{read};
-ghost use Rattle.ortext.specs.Keys.{keys};
-ghost use Rattle.ortext.specs.Write.{recordText};
+ghost use Rattle.ortext_read.specs.Apply.{read};
+ghost use Rattle.ortext_segments.specs.Keys.{keys};
+ghost use Rattle.ortext_write.specs.Write.{recordText};
 ghost use Rattle.mailaddr.specs.Tail.{sharedTail};
 ghost use Rattle.table.specs.Lines.{loadedFrom};
 ghost use Rattle.mapping.specs.Answers.{Fronted, toldAddress, toldRecord};
@@ -70,7 +70,7 @@ pub fn to_address(table: &[u8], rec: Record, out: &mut [u8]) -> ToAddress
 pub fn check(table: &[u8]) -> Checked
     ensures { λ r. ⌜ Demand3 (loadedFrom (now (table .entry))) (toldCheck r) ⌝ }
 {
-    soundness::check::check(table)
+    soundness_check::check::check(table)
 }
 
 // Adds an attribute that a record has once: 0 or 4.

@@ -6,10 +6,10 @@ use mathlib.Core.List.{List, []}
 use mathlib.Core.Option.{Option, none, some}
 use Prim.Native.Nat.{ℕ, _+_, _≤_}
 use lib.ListN.{length, take, drop}
-use Rattle.ortext.specs.Apply as apply
+use Rattle.ortext_read.specs.Apply as apply
 use Rattle.oraddr.specs.Canonical.{canonicalRecord}
-use Rattle.ortext.specs.Apply.{again, read, readLocal, refused, unread}
-use Rattle.ortext.specs.Keys.{keys}
+use Rattle.ortext_read.specs.Apply.{again, read, readLocal, refused, unread}
+use Rattle.ortext_segments.specs.Keys.{keys}
 use Rattle.oraddr.specs.declared.record.Record.{Record}
 use Rattle.mailaddr.specs.Domain.{isDomain}
 use Rattle.mailaddr.specs.Shape.{Address, isReadable}
@@ -19,15 +19,15 @@ use Rattle.table.specs.declared.load as load
 use Rattle.mapping.specs.Carried.{resultOf}
 use Rattle.mapping.specs.Results.{AddressResult, RecordResult}
 use Rattle.mapping.specs.ToAddress.{Plan, extended}
-use Rattle.mapping.specs.declared.carrier.Written.{Written}
-use Rattle.mapping.specs.declared.carrier.Written.the-variants.{Length, NoAddress}
-use Rattle.mapping.specs.declared.to_record.RecordAnswer.{RecordAnswer}
-use Rattle.mapping.specs.declared.to_record.RecordAnswer.the-variants as record-answer
-use Rattle.mapping.specs.declared.to_record.ToRecord.{ToRecord}
-use Rattle.mapping.specs.declared.to_address.AddressAnswer.{AddressAnswer}
-use Rattle.mapping.specs.declared.to_address.AddressAnswer.the-variants as address-answer
-use Rattle.mapping.specs.declared.to_address.Route.{Route}
-use Rattle.mapping.specs.declared.to_address.ToAddress.{ToAddress}
+use Rattle.mapping.specs.declared.answers.Written.{Written}
+use Rattle.mapping.specs.declared.answers.Written.the-variants.{Length, NoAddress}
+use Rattle.mapping.specs.declared.answers.RecordAnswer.{RecordAnswer}
+use Rattle.mapping.specs.declared.answers.RecordAnswer.the-variants as record-answer
+use Rattle.mapping.specs.declared.answers.ToRecord.{ToRecord}
+use Rattle.mapping.specs.declared.answers.AddressAnswer.{AddressAnswer}
+use Rattle.mapping.specs.declared.answers.AddressAnswer.the-variants as address-answer
+use Rattle.mapping.specs.declared.answers.Route.{Route}
+use Rattle.mapping.specs.declared.answers.ToAddress.{ToAddress}
 
 -- document 01's number for each answer of address to record, and the line
 unfoldable pub recordNumber : RecordAnswer → ℕ

@@ -14,15 +14,15 @@ use Rattle.oraddr.specs.Add.{addDd}
 use Rattle.oraddr.specs.Canonical.{canonicalRecord}
 use Rattle.oraddr.specs.View.{emptyRecord}
 use Rattle.oraddr.specs.declared.record.Record.{Record}
-use Rattle.ortext.specs.Keys.{keys, PN-KEY}
-use Rattle.ortext.specs.Name.{readName}
-use Rattle.ortext.specs.Segments.{Segment, readSegments}
-use Rattle.ortext.specs.Apply.{Reading, again, hasRepeated, hasUnknown, namedAgain, pnMeets, read, readLocal, refused, unread, valueAt, valuesAt}
+use Rattle.ortext_segments.specs.Keys.{keys, PN-KEY}
+use Rattle.ortext_name.specs.Name.{readName}
+use Rattle.ortext_segments.specs.Segments.{Segment, readSegments}
+use Rattle.ortext_read.specs.Apply.{Reading, again, hasRepeated, hasUnknown, namedAgain, pnMeets, read, readLocal, refused, unread, valueAt, valuesAt}
 use Rattle.mailaddr.specs.Code.{coded}
 use Rattle.mailaddr.specs.Domain.{isDomain}
 use Rattle.mailaddr.specs.Shape.{Address, isReadable, unquotedLocal}
 use Rattle.table.specs.Table.{Table, Token}
-use Rattle.table.specs.Settle.{Settling, addLevels, begun, noRow, pastBound, pastUnits, settled, settling}
+use Rattle.table_settle.specs.Settle.{Settling, addLevels, begun, noRow, pastBound, pastUnits, settled, settling}
 use Rattle.mapping.specs.Results.{RecordResult, mapped, refusedRecord}
 
 -- ---- step 1

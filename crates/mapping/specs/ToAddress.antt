@@ -12,14 +12,14 @@ use Rattle.oraddr.specs.Attributes.{Attributes, Dd, levels}
 use Rattle.oraddr.specs.Canonical.{canonicalRecord}
 use Rattle.oraddr.specs.View.{view}
 use Rattle.oraddr.specs.declared.record.Record.{Record}
-use Rattle.ortext.specs.Keys.{keys}
-use Rattle.ortext.specs.Write.{localText, remaining}
+use Rattle.ortext_segments.specs.Keys.{keys}
+use Rattle.ortext_write.specs.Write.{localText, remaining}
 use Rattle.mailaddr.specs.Code.{decoded}
 use Rattle.mailaddr.specs.Domain.{inFront}
 use Rattle.mailaddr.specs.Shape.{addressText, shapeOf}
 use Rattle.table.specs.Table.{Row, Table, Token}
 use Rattle.table.specs.Lines.{Loaded, loadedFrom, malformed, wellFormed}
-use Rattle.table.specs.Lookup.{begins, byPath, extension, look}
+use Rattle.table_lookup.specs.Lookup.{begins, byPath, extension, look}
 use Rattle.mapping.specs.Carried.{carrierType, isNone}
 use Rattle.mapping.specs.Results.{AddressResult, malformedAddress, placed, refusedAddress}
 

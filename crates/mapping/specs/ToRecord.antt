@@ -5,7 +5,7 @@ use mathlib.Core.Bool.{cond}
 use mathlib.Core.List.{List}
 use Rattle.oraddr.specs.View.{emptyRecord}
 use Rattle.oraddr.specs.declared.record.Record.{Record}
-use Rattle.ortext.specs.Apply.{Reading, again, read, refused, unread}
+use Rattle.ortext_read.specs.Apply.{Reading, again, read, refused, unread}
 use Rattle.mailaddr.specs.Answers.{Shaping, noShape, shaped, shaping, tooLong}
 use Rattle.table.specs.Table.{Table}
 use Rattle.table.specs.Lines.{Loaded, loadedFrom, malformed, wellFormed}

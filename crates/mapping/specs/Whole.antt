@@ -11,15 +11,15 @@ use Rattle.oraddr.specs.Attributes.{Attributes, singleOf}
 use Rattle.oraddr.specs.Bounds.{ADMD, C}
 use Rattle.oraddr.specs.View.{emptyRecord, view}
 use Rattle.oraddr.specs.declared.record.Record.{Record}
-use Rattle.ortext.specs.Apply.{nameAlone, named, singleKeys}
-use Rattle.ortext.specs.Keys.{keys}
-use Rattle.ortext.specs.Name.{Name, readName}
-use Rattle.ortext.specs.Segments.{Segment, readSegments}
+use Rattle.ortext_read.specs.Apply.{nameAlone, named, singleKeys}
+use Rattle.ortext_segments.specs.Keys.{keys}
+use Rattle.ortext_name.specs.Name.{Name, readName}
+use Rattle.ortext_segments.specs.Segments.{Segment, readSegments}
 use Rattle.mailaddr.specs.Shape.{Address, unquotedLocal}
 use Rattle.table.specs.Table.{Table, Token}
-use Rattle.table.specs.Lookup.{resolve}
-use Rattle.table.specs.Settle as settle
-use Rattle.table.specs.Settle.{addLevels, begun}
+use Rattle.table_lookup.specs.Lookup.{resolve}
+use Rattle.table_settle.specs.Settle as settle
+use Rattle.table_settle.specs.Settle.{addLevels, begun}
 use Rattle.mapping.specs.Carried.{isGateway, settledUnder}
 
 -- What is settled, and what a local part names, put together. Of the attributes that a record has once, each is the named one where

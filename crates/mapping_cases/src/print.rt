@@ -1,12 +1,12 @@
 // What the program prints.
 use crate::input::part;
 use libc::STDOUT_FILENO;
-use mapping::to_address::AddressAnswer;
-use mapping::to_address::ToAddress;
-use mapping::to_record::RecordAnswer;
-use mapping::to_record::ToRecord;
+use mapping::answers::AddressAnswer;
+use mapping::answers::RecordAnswer;
+use mapping::answers::ToAddress;
+use mapping::answers::ToRecord;
 use oraddr::record::Record;
-use ortext::write::write_text;
+use ortext_write::write::write_text;
 ghost use mathlib.Core.Path.{_≡_};
 ghost use mathlib.Core.Bool.{true};
 ghost use Prim.Native.Nat.{_≤_};

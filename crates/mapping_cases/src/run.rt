@@ -11,12 +11,12 @@ use crate::records::with_counts;
 use crate::records::with_dd;
 use crate::records::with_unit;
 use crate::records::with_value;
-use mapping::to_address::record_to_address;
-use mapping::to_record::address_to_record;
+use mapping_to_address::to_address::record_to_address;
+use mapping_to_record::to_record::address_to_record;
 use oraddr::record::EMPTY;
 use oraddr::record::Record;
-use ortext::read::Answer;
-use ortext::read::read_text;
+use ortext_read::read::Answer;
+use ortext_read::read::read_text;
 ghost use Prim.Native.Nat.{_<_, _≤_};
 ghost use lib.ListN.{length};
 

@@ -16,8 +16,8 @@ ghost use mathlib.Core.Bool.{false, true};
 ghost use Prim.Native.Nat.{_+_, _<_, _≤_};
 ghost use lib.ListN.{length, drop};
 ghost use lib.Seq.{paste};
-ghost use Rattle.router.specs.Line.{answerRoom, longestLine};
-ghost use Rattle.router.specs.Run.{Ready};
+ghost use Rattle.router_line.specs.Line.{answerRoom, longestLine};
+ghost use Rattle.router_line.specs.Ready.{Ready};
 
 // A table of as many bytes as one may have, and one more, so that a longer one is seen to be.
 const TABLE_ROOM: usize = 65537;

@@ -4,7 +4,7 @@ use mathlib.Core.Path.{_≡_}
 use mathlib.Core.List.{List}
 use Prim.Native.Nat.{ℕ, _+_, _≤_}
 use lib.ListN.{length}
-use Rattle.router.specs.Line.{longestLine}
+use Rattle.router_line.specs.Line.{longestLine}
 
 -- From a place in the input, of which the bytes up to `end` have arrived, the answers came to `next`: no more is left than a line may have,
 -- and nothing where the whole input has arrived.

@@ -2,10 +2,10 @@
 // one answer of the greatest length and no more, so that a call may have to stop before all lines that have arrived are answered.
 use gateway::entry::route;
 use libc::STDOUT_FILENO;
-use router::line::ANSWER_ROOM;
+use router_line::line::ANSWER_ROOM;
 ghost use Prim.Native.Nat.{_<_, _≤_};
 ghost use lib.ListN.{length};
-ghost use Rattle.router.specs.Line.{answerRoom};
+ghost use Rattle.router_line.specs.Line.{answerRoom};
 ghost use Rattle.route_cases.specs.Feed.{Came};
 
 // How many bytes arrive at each turn, over and over: some are less than a line, and some are several; the greatest is below the limit of a

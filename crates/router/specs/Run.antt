@@ -9,16 +9,12 @@ use lib.ListN.{length, take, drop}
 use Rattle.chars.specs.Lists.{nonEmpty}
 use Rattle.chars.specs.Parts.{run, split}
 use Rattle.chars.specs.Write.{Wrote}
-use Rattle.table.specs.Formed.{Formed}
-use Rattle.table.specs.Lines.{Loaded, loadedFrom, malformed, wellFormed}
-use Rattle.table.specs.Load.{Kept, loadAnswer}
-use Rattle.table.specs.Rows.{tableAt}
+use Rattle.table.specs.Lines.{Loaded, loadedFrom}
+use Rattle.table.specs.Load.{loadAnswer}
 use Rattle.table.specs.declared.load.TableRead.{TableRead}
-use Rattle.table.specs.declared.load.TableRead.the-variants.{Table as TableFound, Malformed}
-use Rattle.router.specs.Line.{lineAnswer, longestLine}
-use Rattle.router.specs.declared.line.Placing.{Placing}
-use Rattle.router.specs.declared.line.Placing.the-variants.{Next, Full}
+use Rattle.router_line.specs.Line.{lineAnswer, longestLine}
 use Rattle.router.specs.declared.run.Routed.{Routed}
+use Rattle.router_line.specs.Ready.{Ready}
 
 -- ---- the whole
 
@@ -101,22 +97,7 @@ pub data Calls (l : Loaded) : Bool → List ℕ → List ℕ → List ℕ → Ty
 
 -- ---- on the way
 
--- a table that a text spells keeps the rules of "The table text"
-abbrev pub FormedBy : Loaded → Type 0
-FormedBy (malformed n) = Unit
-FormedBy (wellFormed t) = Formed t
-
--- a loaded table is in order and keeps its rules
-abbrev pub Ready : List ℕ → List ℕ → List ℕ → TableRead → Type 0
-Ready s ds rs (TableFound t) = Kept s ds rs t × Formed (tableAt s ds rs t)
-Ready s ds rs (Malformed n) = Unit
-
 -- A table text that was loaded for a run: what it comes to, and that it is in order.
 pub record Opened (s : List ℕ) (r : TableRead) (ds rs : List ℕ) : Type 0 where
   pub answers : loadAnswer s ds rs r ≡ loadedFrom s
   pub ready : Ready s ds rs r
-
--- a text at a place, or nothing where it does not fit
-abbrev pub Placed : List ℕ → ℕ → List ℕ → Placing → List ℕ → Type 0
-Placed old at text (Next n) new = Wrote old at text n new × (n ≤ length old)
-Placed old at text Full new = (new ≡ old) × (length old < at + length text)

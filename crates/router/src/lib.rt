@@ -1,3 +1,2 @@
-// Runs of lines (document 01, "The program `orroute`"), over a table that was loaded.
-pub mod line;
+// Runs of lines, in chunks as they arrive (document 01, "The program `orroute`").
 pub mod run;

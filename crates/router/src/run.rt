@@ -1,8 +1,8 @@
 // A run of lines, in chunks as they arrive.
-use crate::line::LONGEST_LINE;
-use crate::line::Placing;
-use crate::line::place_answer;
 use chars::parts::part_end;
+use router_line::line::LONGEST_LINE;
+use router_line::line::Placing;
+use router_line::line::place_answer;
 use table::load::TableRead;
 use table::load::load;
 ghost use mathlib.Core.Path.{_≡_};
@@ -12,8 +12,9 @@ ghost use lib.Dec.{ltb};
 ghost use lib.ListN.{length, drop};
 ghost use Rattle.chars.specs.Parts.{run};
 ghost use Rattle.table.specs.Load.{loadAnswer, rowsSize};
-ghost use Rattle.router.specs.Line.{longestLine};
-ghost use Rattle.router.specs.Run.{Opened, Ready, Routing, RoutingFrom, RoutingRest};
+ghost use Rattle.router_line.specs.Line.{longestLine};
+ghost use Rattle.router.specs.Run.{Opened, Routing, RoutingFrom, RoutingRest};
+ghost use Rattle.router_line.specs.Ready.{Ready};
 
 // How far a call came in its input, and how much it wrote. `over` says that the input goes on within a line that is over the limit and has
 // been answered.

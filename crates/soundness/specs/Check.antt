@@ -14,13 +14,13 @@ use Rattle.oraddr.specs.declared.record.Record.{Record}
 use Rattle.mailaddr.specs.Domain.{partsOf}
 use Rattle.table.specs.Table.{Row, Table, Token}
 use Rattle.table.specs.Lines.{Loaded, malformed, wellFormed}
-use Rattle.table.specs.Settle.{addLevels, begun}
+use Rattle.table_settle.specs.Settle.{addLevels, begun}
 use Rattle.soundness.specs.Fits.{fits}
 use Rattle.soundness.specs.Folded.{domainRow, foldTokens, tokensOf}
 use Rattle.soundness.specs.Sound.{Sound, Witness}
-use Rattle.soundness.specs.declared.check.CheckAnswer.{CheckAnswer}
-use Rattle.soundness.specs.declared.check.CheckAnswer.the-variants as answer
-use Rattle.soundness.specs.declared.check.Checked.{Checked}
+use Rattle.soundness.specs.declared.answers.CheckAnswer.{CheckAnswer}
+use Rattle.soundness.specs.declared.answers.CheckAnswer.the-variants as answer
+use Rattle.soundness.specs.declared.answers.Checked.{Checked}
 use Rattle.soundness.specs.Tokens.{Back, Tried, fitsFrom, pad}
 
 -- a record with the surname Lee, so that it is no carrier

@@ -3,11 +3,5 @@ pub mod FirstBad
 pub mod Formed
 pub mod Keys
 pub mod Load
-pub mod Lookup
 pub mod Marks
-pub mod Paths
 pub mod Rows
-pub mod Settle
-pub mod Settled
-pub mod Tags
-pub mod Tails

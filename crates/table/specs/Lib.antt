@@ -1,13 +1,8 @@
 pub mod FirstBad
 pub mod Formed
 pub mod Keys
-pub mod Levels
 pub mod Lines
 pub mod Load
-pub mod Looked
-pub mod Lookup
 pub mod Marks
 pub mod Rows
-pub mod Settle
 pub mod Table
-pub mod Tags

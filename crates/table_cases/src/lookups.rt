@@ -4,13 +4,13 @@ use crate::input::end_of;
 use crate::input::part;
 use crate::print::print_found;
 use table::load::Loaded;
-use table::lookup::find_domain;
-use table::lookup::find_path;
+use table_lookup::lookup::find_domain;
+use table_lookup::lookup::find_path;
 ghost use mathlib.Core.Path.{_≡_};
 ghost use Prim.Native.Nat.{_≤_};
 ghost use lib.ListN.{length};
 ghost use Rattle.table.specs.Load.{Kept};
-ghost use Rattle.table.specs.Looked.{Ended};
+ghost use Rattle.table_lookup.specs.Looked.{Ended};
 ghost use Rattle.table.specs.Rows.{Inside};
 
 // Room for eight levels.

@@ -1,6 +1,6 @@
 // What the program prints.
 use libc::STDOUT_FILENO;
-use table::lookup::Found;
+use table_lookup::lookup::Found;
 
 pub(crate) fn say(s: &[u8]) {
     io::write_all(STDOUT_FILENO, s);

@@ -24,11 +24,11 @@ ghost use lib.ListN.{length};
 const ROOM: usize = 262144;
 
 fn run_text(digit: u8, text: &[u8]) {
-    print_reading(ortext::read::read_text(base(digit), levels(digit), text));
+    print_reading(ortext_read::read::read_text(base(digit), levels(digit), text));
 }
 
 fn run_local(digit: u8, text: &[u8]) {
-    print_reading(ortext::read::read_local(base(digit), levels(digit), text));
+    print_reading(ortext_read::read::read_local(base(digit), levels(digit), text));
 }
 
 fn run_case(line: &[u8])

@@ -1,20 +1,20 @@
 // What the program prints of a reading and of a name.
 use cases::print::say;
 use oraddr::record::Record;
-use ortext::name::NamePlaces;
-use ortext::name::NameRead;
-use ortext::name::put_initials;
-use ortext::name::read_name;
-use ortext::read::Answer;
-use ortext::read::Reading;
-use ortext::write::write_local;
-use ortext::write::write_text;
+use ortext_name::name::NamePlaces;
+use ortext_name::name::NameRead;
+use ortext_name::name::put_initials;
+use ortext_name::name::read_name;
+use ortext_read::read::Answer;
+use ortext_read::read::Reading;
+use ortext_write::write::write_local;
+use ortext_write::write::write_text;
 ghost use mathlib.Core.Path.{_≡_};
 ghost use mathlib.Core.Bool.{true};
 ghost use Prim.Native.Nat.{_+_, _*_, _≤_};
 ghost use lib.ListN.{length};
 ghost use Rattle.oraddr.specs.Canonical.{canonicalRecord};
-ghost use Rattle.ortext.specs.Places.{Placed};
+ghost use Rattle.ortext_name.specs.Places.{Placed};
 
 // Room for the longest text of a canonical record.
 const ROOM: usize = 2304;

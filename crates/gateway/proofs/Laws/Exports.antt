@@ -19,11 +19,11 @@ use Rattle.oraddr.specs.declared.record.Record.{Record}
 use Rattle.oraddr.specs.Attributes.{singleOf}
 use Rattle.oraddr.proofs.Laws.Canonical.{canonical-parts, canonical-view}
 use Rattle.oraddr.proofs.Laws.View.{view-empty}
-use Rattle.ortext.specs.Apply as apply
-use Rattle.ortext.specs.Apply.{again, read, readText, refused, unread}
-use Rattle.ortext.specs.Keys.{keys}
-use Rattle.ortext.specs.Write.{recordText, remaining}
-use Rattle.ortext.proofs.Laws.Write.{text-bound}
+use Rattle.ortext_read.specs.Apply as apply
+use Rattle.ortext_read.specs.Apply.{again, read, readText, refused, unread}
+use Rattle.ortext_segments.specs.Keys.{keys}
+use Rattle.ortext_write.specs.Write.{recordText, remaining}
+use Rattle.ortext_write.proofs.Laws.Write.{text-bound}
 use Rattle.table.specs.Lines.{Loaded, loadedFrom, malformed, wellFormed}
 use Rattle.table.specs.Table.{Table}
 use Rattle.table.proofs.Laws.Formed.{loaded-formed}
@@ -31,12 +31,12 @@ use Rattle.mapping.specs.Answers.{addressLine, addressNumber, recordLine, recor
 use Rattle.mapping.specs.Results.{AddressResult, RecordResult, malformedRecord, placed, refusedAddress}
 use Rattle.mapping.specs.ToAddress.{recordToAddress, toAddress, toAddressBy}
 use Rattle.mapping.specs.ToRecord.{addressToRecord, toRecordBy}
-use Rattle.mapping.specs.declared.to_address.AddressAnswer.{AddressAnswer}
-use Rattle.mapping.specs.declared.to_address.AddressAnswer.the-variants as address-answer
-use Rattle.mapping.specs.declared.to_address.ToAddress.{ToAddress}
-use Rattle.mapping.specs.declared.to_record.RecordAnswer.{RecordAnswer}
-use Rattle.mapping.specs.declared.to_record.RecordAnswer.the-variants as record-answer
-use Rattle.mapping.specs.declared.to_record.ToRecord.{ToRecord}
+use Rattle.mapping.specs.declared.answers.AddressAnswer.{AddressAnswer}
+use Rattle.mapping.specs.declared.answers.AddressAnswer.the-variants as address-answer
+use Rattle.mapping.specs.declared.answers.ToAddress.{ToAddress}
+use Rattle.mapping.specs.declared.answers.RecordAnswer.{RecordAnswer}
+use Rattle.mapping.specs.declared.answers.RecordAnswer.the-variants as record-answer
+use Rattle.mapping.specs.declared.answers.ToRecord.{ToRecord}
 use Rattle.mapping.proofs.Laws.Returned.{done-canonical}
 use Rattle.soundness.specs.Check.{CheckResult, Demand3}
 use Rattle.dates.specs.Answers.{dateNumber}

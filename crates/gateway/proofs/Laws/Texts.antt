@@ -7,11 +7,11 @@ use Prim.Native.Nat.{ℕ}
 use Rattle.oraddr.specs.Canonical.{canonicalRecord}
 use Rattle.oraddr.specs.View.{emptyRecord}
 use Rattle.oraddr.specs.declared.record.Record.{Record}
-use Rattle.ortext.specs.Answers.{reading}
-use Rattle.ortext.specs.Apply as apply
-use Rattle.ortext.specs.Apply.{read, readText}
-use Rattle.ortext.specs.Keys.{keys}
-use Rattle.ortext.specs.declared.read.Reading.{Reading}
+use Rattle.ortext_read.specs.Answers.{reading}
+use Rattle.ortext_read.specs.Apply as apply
+use Rattle.ortext_read.specs.Apply.{read, readText}
+use Rattle.ortext_segments.specs.Keys.{keys}
+use Rattle.ortext_read.specs.declared.read.Reading.{Reading}
 use Rattle.gateway.specs.Texts.{noRecord, readOutcome, recordOfText}
 
 pub outcome-not : (r : Record) → canonicalRecord r ≡ false → noRecord ≡ readOutcome (read r)

@@ -15,14 +15,14 @@ use Rattle.oraddr.specs.Add.{Outcome}
 use Rattle.oraddr.specs.Attributes.{Attributes}
 use Rattle.oraddr.specs.Canonical.{canonicalRecord}
 use Rattle.oraddr.specs.declared.record.Record.{Record}
-use Rattle.ortext.specs.Apply.{Reading, addAll, addNamed, again, applied, finish, hasEmpty, hasRepeated, hasUnknown, nameAlone, named, namedAgain, nameOf, orName, pnMeets, read, readAsName, readLocal, readText, refused, unread, valueAt, valuesAt, withName}
-use Rattle.ortext.specs.Keys.{keys, PN-KEY}
-use Rattle.ortext.specs.Name.{Name, readName}
-use Rattle.ortext.specs.Segments.{Segment, readSegments}
+use Rattle.ortext_read.specs.Apply.{Reading, addAll, addNamed, again, applied, finish, hasEmpty, hasRepeated, hasUnknown, nameAlone, named, namedAgain, nameOf, orName, pnMeets, read, readAsName, readLocal, readText, refused, unread, valueAt, valuesAt, withName}
+use Rattle.ortext_segments.specs.Keys.{keys, PN-KEY}
+use Rattle.ortext_name.specs.Name.{Name, readName}
+use Rattle.ortext_segments.specs.Segments.{Segment, readSegments}
 use Rattle.mailaddr.specs.Domain.{isDomain}
 use Rattle.mailaddr.specs.Shape.{Address, isReadable, unquotedLocal}
 use Rattle.table.specs.Table.{Table}
-use Rattle.table.specs.Settle.{Settling, noRow, pastBound, pastUnits, settled}
+use Rattle.table_settle.specs.Settle.{Settling, noRow, pastBound, pastUnits, settled}
 use Rattle.mapping.specs.Answers.{isGood, readWell}
 use Rattle.mapping.specs.Carried.{againOver, carriedWhole, hasKeyFault, hasLocalOther, hasLocalSpaces, hasOtherPart, isLocalEmpty, isNoName, isNoRow, isNone, isNotCanonical, isOther, isPastBound, isPastUnits, namesBoth, namesNoName, namesSettled, namesTwice, namesUnknown, noRowMatches, onSegments, passesBound, passesUnits, readOver, readsNeither, resultOf, segmentsOf, settledUnder}
 

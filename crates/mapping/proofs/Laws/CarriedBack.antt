@@ -33,10 +33,10 @@ use Rattle.mailaddr.proofs.Laws.Shaped.{shaped-shape}
 use Rattle.table.specs.Table.{Row, Table, Token}
 use Rattle.table.specs.Formed.{Formed}
 use Rattle.table.specs.Lines.{areFields, isField, isPath, isRow, loadedFrom, longestGatewayDomain, wellFormed}
-use Rattle.table.specs.Settle.{addLevels, begun}
+use Rattle.table_settle.specs.Settle.{addLevels, begun}
 use Rattle.table.proofs.Laws.Formed.{loaded-formed}
-use Rattle.table.proofs.Laws.Lookup.{begins-more, begins-refl}
-use Rattle.table.proofs.Laws.Settled.{LevelsMade, field-there, levelled, levelled-kept, levelled-levels, levelled-units, levels-made}
+use Rattle.table_lookup.proofs.Laws.Lookup.{begins-more, begins-refl}
+use Rattle.table_settle.proofs.Laws.Settled.{LevelsMade, field-there, levelled, levelled-kept, levelled-levels, levelled-units, levels-made}
 use Rattle.mapping.specs.Carried.{carriedWhole, carrierOf, carrierType, carrying, isNone, longestCoded}
 use Rattle.mapping.specs.Results.{mapped, placed, refusedRecord}
 use Rattle.mapping.specs.ToAddress.{carriedAddress, carriedValue, hasLevels, inShape, isCarrier, isNameless, isOneCarrier, recordToAddress, toAddress, toAddressBy}

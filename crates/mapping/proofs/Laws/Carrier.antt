@@ -32,11 +32,11 @@ use Rattle.mailaddr.specs.declared.shape.ShapeRead.the-variants.{Address as Add
 use Rattle.mailaddr.proofs.Laws.Code.{decoded-length}
 use Rattle.table.specs.Table.{Token}
 use Rattle.table.specs.Rows.{between}
-use Rattle.table.specs.Lookup.{begins}
-use Rattle.table.specs.Looked.{Ended, tokensFrom, tokensOf}
-use Rattle.table.specs.Settle.{addLevels, begun}
-use Rattle.table.proofs.Laws.Lookup.{begins-length}
-use Rattle.table.proofs.Laws.Paths.{empty-same}
+use Rattle.table_lookup.specs.Lookup.{begins}
+use Rattle.table_lookup.specs.Looked.{Ended, tokensFrom, tokensOf}
+use Rattle.table_settle.specs.Settle.{addLevels, begun}
+use Rattle.table_lookup.proofs.Laws.Lookup.{begins-length}
+use Rattle.table_lookup.proofs.Laws.Paths.{empty-same}
 use Rattle.mapping.specs.Results.{mapped, refusedRecord}
 use Rattle.mapping.specs.Carried.{carrierOf, carrierType, carrying, isNone}
 use Rattle.mapping.specs.ToAddress.{carriedValue, hasLevels, inShape, isOneCarrier}

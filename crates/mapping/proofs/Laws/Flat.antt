@@ -29,7 +29,7 @@ use Rattle.oraddr.specs.declared.record.Record.{Record}
 use Rattle.mailaddr.specs.Domain.{inFront}
 use Rattle.table.specs.Table.{Token}
 use Rattle.table.specs.Rows.{between}
-use Rattle.table.specs.Looked.{Ended, tokensFrom, tokensOf}
+use Rattle.table_lookup.specs.Looked.{Ended, tokensFrom, tokensOf}
 use Rattle.table.proofs.Laws.Fields.{between-length, region}
 use Rattle.mapping.specs.Flat.{Flat, fronts}
 use Rattle.mapping.specs.ToAddress.{extended}

@@ -18,29 +18,29 @@ use Rattle.oraddr.specs.Canonical.{canonicalRecord}
 use Rattle.oraddr.specs.View.{view}
 use Rattle.oraddr.specs.declared.record.Record.{Record}
 use Rattle.oraddr.proofs.Laws.Canonical.{canonical-view}
-use Rattle.ortext.specs.Keys.{keys}
-use Rattle.ortext.specs.Write.{localText, remaining}
-use Rattle.ortext.proofs.Laws.Write.{local-bound, text-class}
+use Rattle.ortext_segments.specs.Keys.{keys}
+use Rattle.ortext_write.specs.Write.{localText, remaining}
+use Rattle.ortext_write.proofs.Laws.Write.{local-bound, text-class}
 use Rattle.mailaddr.specs.Shape.{addressText, quotedLocal}
 use Rattle.mailaddr.proofs.Laws.Shape.{length-quoted-quotable, quoted-atoms}
 use Rattle.table.specs.Table.{Row, Table, Token}
 use Rattle.table.specs.Lines.{Loaded, loadedFrom}
 use Rattle.table.specs.Load.{Loading, loadAnswer}
-use Rattle.table.specs.Lookup.{byPath, extension, look}
-use Rattle.table.specs.Looked.{Looked, foundRow, tokensFrom, tokensOf}
+use Rattle.table_lookup.specs.Lookup.{byPath, extension, look}
+use Rattle.table_lookup.specs.Looked.{Looked, foundRow, tokensFrom, tokensOf}
 use Rattle.table.specs.Rows.{RowInside, between, placesAt, rowAt, rowsAt, tableAt}
 use Rattle.table.specs.declared.line as line
 use Rattle.table.specs.declared.load as load
 use Rattle.table.specs.declared.load.TableRead.the-variants.{Malformed as TableMalformed, Table as TableFound}
-use Rattle.table.specs.declared.lookup.Found.the-variants.{At, Nowhere}
+use Rattle.table_lookup.specs.declared.lookup.Found.the-variants.{At, Nowhere}
 use Rattle.table.proofs.Laws.Fields.{between-length}
-use Rattle.table.proofs.Laws.Lookup.{extension-front}
+use Rattle.table_lookup.proofs.Laws.Lookup.{extension-front}
 use Rattle.mapping.specs.Answers.{Fronted, Routed, addressLine, addressNumber, outward, toldAddress}
 use Rattle.mapping.specs.Flat.{Flat, fronts}
 use Rattle.mapping.specs.Results.{malformedAddress, placed, refusedAddress}
 use Rattle.mapping.specs.ToAddress.{Plan, addressOf, carriedAddress, extended, hasLevels, isCarrier, isNameless, isOneCarrier, placedIn, plan, planBy, planUnder, planned, recordToAddress, toAddress, toAddressBy}
-use Rattle.mapping.specs.declared.to_address.AddressAnswer.the-variants.{Malformed, NoAddress, NotCanonical}
-use Rattle.mapping.specs.declared.to_address.Route.{Route}
+use Rattle.mapping.specs.declared.answers.AddressAnswer.the-variants.{Malformed, NoAddress, NotCanonical}
+use Rattle.mapping.specs.declared.answers.Route.{Route}
 use Rattle.mapping.proofs.Laws.Flat.{extended-fronts, length-fronts}
 
 -- ---- the route

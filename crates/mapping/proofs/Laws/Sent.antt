@@ -29,14 +29,14 @@ use Rattle.oraddr.specs.View.{view}
 use Rattle.oraddr.specs.declared.record.Record.{Record}
 use Rattle.oraddr.proofs.Laws.Canonical.{canonical-parts, canonical-view}
 use Rattle.oraddr.proofs.Laws.View.{value-length}
-use Rattle.ortext.specs.Apply.{Reading}
-use Rattle.ortext.specs.Keys.{DD-KEY, OU-KEY, SHORT-KEYS, keys}
-use Rattle.ortext.specs.Name.{dotted, givenText, isShort, nameText}
-use Rattle.ortext.specs.Write.{ddSegment, hasShort, joined, keyValue, localText, longDd, nameIn, onlyName, order, plainSegment, quoted, recordText, remaining, segmentsAt, segmentsIn, segmentsText, writesShort}
-use Rattle.ortext.proofs.Laws.Keys.{dot, key-clear}
-use Rattle.ortext.proofs.Laws.Left.{flat}
-use Rattle.ortext.proofs.Laws.Name.{name-short, short-some, surname-some}
-use Rattle.ortext.proofs.Laws.Write.{Ruled, dd-long, dd-short, ddText, joined-in, joined-map, kept-within, keyText, local-long, local-short, plain-text, ruled, single-none, single-some, text-class, unitText}
+use Rattle.ortext_read.specs.Apply.{Reading}
+use Rattle.ortext_segments.specs.Keys.{DD-KEY, OU-KEY, SHORT-KEYS, keys}
+use Rattle.ortext_name.specs.Name.{dotted, givenText, isShort, nameText}
+use Rattle.ortext_write.specs.Write.{ddSegment, hasShort, joined, keyValue, localText, longDd, nameIn, onlyName, order, plainSegment, quoted, recordText, remaining, segmentsAt, segmentsIn, segmentsText, writesShort}
+use Rattle.ortext_segments.proofs.Laws.Keys.{dot, key-clear}
+use Rattle.ortext_write.proofs.Laws.Left.{flat}
+use Rattle.ortext_name.proofs.Laws.Name.{name-short, short-some, surname-some}
+use Rattle.ortext_write.proofs.Laws.Write.{Ruled, dd-long, dd-short, ddText, joined-in, joined-map, kept-within, keyText, local-long, local-short, plain-text, ruled, single-none, single-some, text-class, unitText}
 use Rattle.mailaddr.specs.Answers.{fromShape, shaped, shaping}
 use Rattle.mailaddr.specs.Domain.{inFront, isDomain}
 use Rattle.mailaddr.specs.Shape as shape
@@ -46,8 +46,8 @@ use Rattle.mailaddr.proofs.Laws.Shape.{quote-shape, quote-unquote}
 use Rattle.table.specs.Table.{Row, Table, Token}
 use Rattle.table.specs.Formed.{Formed}
 use Rattle.table.specs.Lines.{isPath, isRow, longestGatewayDomain, longestRowDomain}
-use Rattle.table.specs.Lookup.{byPath, extension, look}
-use Rattle.table.proofs.Laws.Lookup.{Answer, extension-parts, found}
+use Rattle.table_lookup.specs.Lookup.{byPath, extension, look}
+use Rattle.table_lookup.proofs.Laws.Lookup.{Answer, extension-parts, found}
 use Rattle.mapping.specs.Answers.{isGood, readWell}
 use Rattle.mapping.specs.Carried.{carrying, readOver, resultOf, settledUnder}
 use Rattle.mapping.specs.Flat.{fronts}

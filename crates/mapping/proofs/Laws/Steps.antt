@@ -7,15 +7,15 @@ use mathlib.Core.List.{List, []}
 use Prim.Native.Nat.{ℕ}
 use Rattle.chars.proofs.Laws.Lists.{by-test, true-not-false}
 use Rattle.oraddr.specs.declared.record.Record.{Record}
-use Rattle.ortext.specs.Answers.{answered, reading}
-use Rattle.ortext.specs.Apply.{unread}
-use Rattle.ortext.specs.declared.read as read
-use Rattle.ortext.specs.declared.read.Answer.the-variants.{Again, Done, Refused, Unread}
+use Rattle.ortext_read.specs.Answers.{answered, reading}
+use Rattle.ortext_read.specs.Apply.{unread}
+use Rattle.ortext_read.specs.declared.read as read
+use Rattle.ortext_read.specs.declared.read.Answer.the-variants.{Again, Done, Refused, Unread}
 use Rattle.mailaddr.specs.Answers.{Shaping, noShape, shaped, shaping, tooLong}
 use Rattle.mailaddr.specs.Domain.{isDomain}
 use Rattle.mailaddr.specs.Shape.{Address, isReadable, unquotedLocal}
 use Rattle.table.specs.Table.{Row, Table}
-use Rattle.table.specs.Settle.{Settling, noRow, pastBound, pastUnits, settled}
+use Rattle.table_settle.specs.Settle.{Settling, noRow, pastBound, pastUnits, settled}
 use Rattle.mapping.specs.Answers.{isGood, readSettled, readWell}
 use Rattle.mapping.specs.Carried.{carriedWhole, carrying, isGateway, isNotCanonical, namesSettled, noRowMatches, passesBound, passesUnits, readOver, resultOf, settledUnder}
 use Rattle.mapping.specs.Results.{mapped}

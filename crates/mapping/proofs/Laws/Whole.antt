@@ -21,19 +21,19 @@ use Rattle.oraddr.specs.Canonical.{canonicalRecord, isDd, isUnit}
 use Rattle.oraddr.specs.View.{ddInRange, ddsInRange, emptyRecord, inRange, singlesInRange, singlesView, unitsInRange, valueOf, valueView, view}
 use Rattle.oraddr.specs.declared.record.Record.{Record}
 use Rattle.oraddr.proofs.Laws.Made.{Made, dd-count, made-empty, made-single, made-unit, single-length, unit-count}
-use Rattle.ortext.specs.Apply.{Reading, addAll, addDds, addNamed, addSingles, addUnits, again, andThen, applied, complete, finish, hasEmpty, hasRepeated, hasUnknown, nameAlone, named, nameOf, namedAgain, pnMeets, read, readAsName, readLocal, refused, unread, withName}
-use Rattle.ortext.specs.Keys.{keys}
-use Rattle.ortext.specs.Name.{Name, readName}
-use Rattle.ortext.specs.Segments.{Segment, readSegments}
-use Rattle.ortext.proofs.Laws.Adding.{dds-few, singles-kept, singles-skip, singles-some, then-done, then-is, units-few}
-use Rattle.ortext.proofs.Laws.Apply as apply
-use Rattle.ortext.proofs.Laws.Apply.{Fits, all-added, complete-lacks, over}
+use Rattle.ortext_read.specs.Apply.{Reading, addAll, addDds, addNamed, addSingles, addUnits, again, andThen, applied, complete, finish, hasEmpty, hasRepeated, hasUnknown, nameAlone, named, nameOf, namedAgain, pnMeets, read, readAsName, readLocal, refused, unread, withName}
+use Rattle.ortext_segments.specs.Keys.{keys}
+use Rattle.ortext_name.specs.Name.{Name, readName}
+use Rattle.ortext_segments.specs.Segments.{Segment, readSegments}
+use Rattle.ortext_read.proofs.Laws.Adding.{dds-few, singles-kept, singles-skip, singles-some, then-done, then-is, units-few}
+use Rattle.ortext_read.proofs.Laws.Apply as apply
+use Rattle.ortext_read.proofs.Laws.Apply.{Fits, all-added, complete-lacks, over}
 use Rattle.mailaddr.specs.Answers.{shaped, shaping}
 use Rattle.mailaddr.specs.Shape.{Address, isReadable, unquotedLocal}
 use Rattle.table.specs.Table.{Table, Token}
-use Rattle.table.specs.Lookup.{resolve}
-use Rattle.table.specs.Settle.{Settling, addLevel, addLevels, begun, noRow, pastBound, pastUnits, settled, settledAs, settledFrom, settling}
-use Rattle.table.proofs.Laws.Settle.{level-omitted, level-single, level-unit}
+use Rattle.table_lookup.specs.Lookup.{resolve}
+use Rattle.table_settle.specs.Settle.{Settling, addLevel, addLevels, begun, noRow, pastBound, pastUnits, settled, settledAs, settledFrom, settling}
+use Rattle.table_settle.proofs.Laws.Settle.{level-omitted, level-single, level-unit}
 use Rattle.mapping.specs.Answers.{isGood, readWell}
 use Rattle.mapping.specs.Carried.{carriedWhole, isGateway, readOver, resultOf, settledUnder}
 use Rattle.mapping.specs.Results.{RecordResult, mapped}

@@ -7,7 +7,7 @@ use lib.ListN.{length}
 use lib.Seq.{length-take-le}
 use Rattle.chars.proofs.Laws.Write.{wrote-length}
 use Rattle.router.proofs.Laws.Calls.{call-moves}
-use Rattle.router.proofs.Laws.Line.{ready-formed}
+use Rattle.router_line.proofs.Laws.Line.{ready-formed}
 use Rattle.orroute.specs.declared.Waiting.{Waiting}
 use borrow.Author.Needs.{needs}
 use Rattle.orroute.proofs.answer.Statement.{statement}

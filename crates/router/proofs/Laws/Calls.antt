@@ -13,10 +13,11 @@ use lib.ListN.{length, take, drop}
 use Rattle.chars.specs.Parts.{run}
 use Rattle.chars.proofs.Laws.Lists.{by-test}
 use Rattle.table.specs.Lines.{Loaded}
-use Rattle.router.specs.Line.{answerRoom}
-use Rattle.router.specs.Run.{Calls, FormedBy, Lacks, Routing, Waits, afterLine, called, due, ended, whole}
+use Rattle.router_line.specs.Line.{answerRoom}
+use Rattle.router.specs.Run.{Calls, Lacks, Routing, Waits, afterLine, called, due, ended, whole}
+use Rattle.router_line.specs.Ready.{FormedBy}
 use Rattle.router.specs.declared.run.Routed.{Routed}
-use Rattle.router.proofs.Laws.Line.{answer-length}
+use Rattle.router_line.proofs.Laws.Line.{answer-length}
 use Rattle.router.proofs.Laws.Run.{whole-none}
 
 -- when nothing is left, nothing is due

@@ -18,7 +18,7 @@ use Rattle.chars.proofs.Laws.Lists.{by-test, true-not-false}
 use Rattle.chars.proofs.Laws.Parts.{run-le, split-first, split-last, split-some}
 use Rattle.chars.proofs.Laws.Write.{wrote-length, wrote-nothing, wrote-then}
 use Rattle.table.specs.Lines.{Loaded}
-use Rattle.router.specs.Line.{lineAnswer, longestLine, refusedLine}
+use Rattle.router_line.specs.Line.{lineAnswer, longestLine, refusedLine}
 use Rattle.router.specs.Run.{Lacks, RoutingFrom, Waits, Went, afterLine, answers, due, linesOf, whole}
 use Rattle.router.specs.declared.run.Routed.{Routed}
 

@@ -27,17 +27,17 @@ use Rattle.oraddr.specs.View.{emptyRecord, view}
 use Rattle.oraddr.specs.declared.record.Record.{Record}
 use Rattle.oraddr.proofs.Laws.Canonical.{canonical-same, canonical-view}
 use Rattle.oraddr.proofs.Laws.View.{level-unit}
-use Rattle.ortext.specs.Apply.{Reading, readLocal}
-use Rattle.ortext.specs.Keys.{keys}
-use Rattle.ortext.specs.Write.{localText, remaining}
-use Rattle.ortext.proofs.Laws.Back.{ReadsAs}
+use Rattle.ortext_read.specs.Apply.{Reading, readLocal}
+use Rattle.ortext_segments.specs.Keys.{keys}
+use Rattle.ortext_write.specs.Write.{localText, remaining}
+use Rattle.ortext_write.proofs.Laws.Back.{ReadsAs}
 use Rattle.table.specs.Table.{Row, Table, Token}
 use Rattle.table.specs.Formed as table
 use Rattle.table.specs.Lines.{areFields, isField, isLevel}
-use Rattle.table.specs.Lookup as lookup
-use Rattle.table.specs.Lookup.{byPath}
-use Rattle.table.specs.Settle.{Settling, addLevels, begun, settled, settledAs, settledFrom, settling}
-use Rattle.table.proofs.Laws.Settled.{levelled-units, levels-made}
+use Rattle.table_lookup.specs.Lookup as lookup
+use Rattle.table_lookup.specs.Lookup.{byPath}
+use Rattle.table_settle.specs.Settle.{Settling, addLevels, begun, settled, settledAs, settledFrom, settling}
+use Rattle.table_settle.proofs.Laws.Settled.{levelled-units, levels-made}
 use Rattle.mapping.specs.Answers.{isGood}
 use Rattle.mapping.specs.Carried.{carrying, isGateway, readOver, settledUnder}
 use Rattle.mapping.specs.Results.{RecordResult, mapped}

@@ -24,18 +24,18 @@ use Rattle.oraddr.specs.Same.{sameAttributes, sameRecord}
 use Rattle.oraddr.specs.View.{emptyRecord, view}
 use Rattle.oraddr.specs.declared.record.Record.{Record}
 use Rattle.oraddr.proofs.Laws.Canonical.{canonical-view}
-use Rattle.ortext.specs.Apply.{read, readLocal}
-use Rattle.ortext.specs.Keys.{keys}
-use Rattle.ortext.specs.Write.{localText, remaining}
+use Rattle.ortext_read.specs.Apply.{read, readLocal}
+use Rattle.ortext_segments.specs.Keys.{keys}
+use Rattle.ortext_write.specs.Write.{localText, remaining}
 use Rattle.mailaddr.specs.Code.{coded}
 use Rattle.mailaddr.specs.Domain.{isDomain, partsOf}
 use Rattle.table.specs.Table.{Row, Table, Token}
 use Rattle.table.specs.Formed.{Formed}
-use Rattle.table.specs.Lookup.{byDomain, byPath, look, resolve, settledBy}
-use Rattle.table.specs.Settle.{Settling, addLevels, begun, noRow, pastBound, pastUnits, settled}
+use Rattle.table_lookup.specs.Lookup.{byDomain, byPath, look, resolve, settledBy}
+use Rattle.table_settle.specs.Settle.{Settling, addLevels, begun, noRow, pastBound, pastUnits, settled}
 use Rattle.table.specs.Lines.{isRow, longestRowDomain}
-use Rattle.table.proofs.Laws.Lookup.{Answer, Best, found}
-use Rattle.table.proofs.Laws.Settled.{LevelsMade, levels-kept}
+use Rattle.table_lookup.proofs.Laws.Lookup.{Answer, Best, found}
+use Rattle.table_settle.proofs.Laws.Settled.{LevelsMade, levels-kept}
 use Rattle.mapping.specs.Answers.{isGood}
 use Rattle.mapping.specs.Carried.{carrierOf, carrying, isGateway, longestCoded, readOver, settledUnder}
 use Rattle.mapping.specs.Results.{mapped, refusedRecord}

@@ -33,17 +33,17 @@ use Rattle.oraddr.specs.View.{emptyRecord, singlesView, valueView, view}
 use Rattle.oraddr.specs.declared.record.Record.{Record}
 use Rattle.oraddr.proofs.Laws.Canonical.{Parts, parts-canonical}
 use Rattle.oraddr.proofs.Laws.Made.{Made, made-single, single-added}
-use Rattle.ortext.proofs.Laws.Keys.{key-clear}
+use Rattle.ortext_segments.proofs.Laws.Keys.{key-clear}
 use Rattle.mailaddr.specs.Domain.{isDomain, partsOf}
 use Rattle.table.specs.Table.{Row, Table, Token}
 use Rattle.table.specs.Formed.{Formed}
 use Rattle.table.specs.Lines.{areFields, isField, isLevel}
-use Rattle.table.specs.Lookup.{begins}
-use Rattle.table.specs.Settle.{Settling, addLevel, addLevels, begun, pastBound, pastUnits, settled, settledAs, settledFrom}
+use Rattle.table_lookup.specs.Lookup.{begins}
+use Rattle.table_settle.specs.Settle.{Settling, addLevel, addLevels, begun, pastBound, pastUnits, settled, settledAs, settledFrom}
 use Rattle.table.proofs.Laws.Fields.{field-own, field-unit}
-use Rattle.table.proofs.Laws.Settle.{level-single, level-unit, levels-stop}
-use Rattle.table.proofs.Laws.Settled.{LevelsMade, field-there, levelled, levelled-kept, levelled-levels, levelled-units, levels-made}
-use Rattle.table.proofs.Laws.Tails.{fold-parts, tail-place, tail-whole}
+use Rattle.table_settle.proofs.Laws.Settle.{level-single, level-unit, levels-stop}
+use Rattle.table_settle.proofs.Laws.Settled.{LevelsMade, field-there, levelled, levelled-kept, levelled-levels, levelled-units, levels-made}
+use Rattle.table_lookup.proofs.Laws.Tails.{fold-parts, tail-place, tail-whole}
 use Rattle.mapping.specs.ToAddress.{hasLevels, isCarrier, isNameless, isOneCarrier}
 use Rattle.soundness.specs.Check.{SecondBack, candidateOf, named}
 use Rattle.soundness.specs.Fits.{fits}

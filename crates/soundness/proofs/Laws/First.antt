@@ -17,8 +17,8 @@ use Rattle.mailaddr.specs.Domain.{partsOf}
 use Rattle.table.specs.Table.{Row, Table, Token}
 use Rattle.table.specs.Formed.{Formed}
 use Rattle.table.specs.Lines.{isRow, longestRowDomain}
-use Rattle.table.specs.Settle.{addLevels, begun}
-use Rattle.table.proofs.Laws.Settled.{levels-made}
+use Rattle.table_settle.specs.Settle.{addLevels, begun}
+use Rattle.table_settle.proofs.Laws.Settled.{levels-made}
 use Rattle.mapping.specs.ToAddress.{isCarrier}
 use Rattle.soundness.specs.Check.{FirstBack, candidateOf}
 use Rattle.soundness.specs.Folded.{domainRow, tokensOf}

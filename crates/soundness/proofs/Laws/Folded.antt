@@ -21,19 +21,19 @@ use Rattle.chars.proofs.Laws.Case.{agree-sym, fold-twice, same-folded, same-of,
 use Rattle.chars.proofs.Laws.Domain.{domain-part-fold, domain-part-label}
 use Rattle.chars.proofs.Laws.Seq.{map-drop}
 use Rattle.oraddr.proofs.Laws.Canonical.{rule-fold, some-same, unit-same}
-use Rattle.ortext.proofs.Laws.Keys.{dot, key-clear}
+use Rattle.ortext_segments.proofs.Laws.Keys.{dot, key-clear}
 use Rattle.mailaddr.specs.Domain.{domainOf, inFront, isDomain, partsOf}
 use Rattle.mailaddr.proofs.Laws.Domain.{domain-parts, parts-fold, parts-front}
 use Rattle.table.specs.Table.{Row, Table, Token}
 use Rattle.table.specs.Lines.{areFields, isField, isLevel, isPath, isRow, longestRowDomain, mostRows, sameDomain, samePath}
 use Rattle.table.specs.Formed as table
 use Rattle.table.specs.Formed.{distinct}
-use Rattle.table.specs.Lookup as lookup
-use Rattle.table.specs.Lookup.{Key, byDomain, byPath, extension, settledBy}
+use Rattle.table_lookup.specs.Lookup as lookup
+use Rattle.table_lookup.specs.Lookup.{Key, byDomain, byPath, extension, settledBy}
 use Rattle.table.proofs.Laws.Rows.{agree-fold}
-use Rattle.table.proofs.Laws.Lookup.{extension-parts}
-use Rattle.table.proofs.Laws.Settled.{field-there}
-use Rattle.table.proofs.Laws.Tails.{fold-parts}
+use Rattle.table_lookup.proofs.Laws.Lookup.{extension-parts}
+use Rattle.table_settle.proofs.Laws.Settled.{field-there}
+use Rattle.table_lookup.proofs.Laws.Tails.{fold-parts}
 use Rattle.mapping.specs.Carried.{isGateway}
 use Rattle.mapping.specs.ToAddress.{extended, plan, planBy, planUnder}
 use Rattle.soundness.specs.Tokens as tokens

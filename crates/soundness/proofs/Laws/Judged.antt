@@ -23,7 +23,7 @@ use Rattle.table.specs.Table.{Row, Table, Token}
 use Rattle.table.specs.Formed.{Formed}
 use Rattle.table.specs.Lines.{isPath, isRow, longestGatewayDomain, longestRowDomain}
 use Rattle.table.specs.Rows.{RowInside, placesAt, rowAt, rowsAt, rowsFrom, tableAt}
-use Rattle.table.specs.Settle.{Settling, addLevels, begun, noRow, pastBound, pastUnits, settled, settledAs, settledFrom}
+use Rattle.table_settle.specs.Settle.{Settling, addLevels, begun, noRow, pastBound, pastUnits, settled, settledAs, settledFrom}
 use Rattle.table.specs.declared.line as line
 use Rattle.table.specs.declared.load as load
 use Rattle.table.proofs.Laws.Fields.{between-length}
@@ -33,8 +33,8 @@ use Rattle.soundness.specs.Fits.{fits}
 use Rattle.soundness.specs.Folded.{domainRow, pathRow, tokensOf}
 use Rattle.soundness.specs.Tokens as tokens
 use Rattle.soundness.specs.Tokens.{Back, Checked, Tok, Tried, pad}
-use Rattle.soundness.specs.declared.check as check
-use Rattle.soundness.specs.declared.check.CheckAnswer.the-variants as answer
+use Rattle.soundness.specs.declared.answers as check
+use Rattle.soundness.specs.declared.answers.CheckAnswer.the-variants as answer
 use Rattle.soundness.proofs.Laws.Folded.{all-mem}
 
 -- ---- judgements

@@ -21,15 +21,15 @@ use Rattle.oraddr.specs.View.{emptyRecord, view}
 use Rattle.oraddr.specs.declared.add.Addition.{Addition}
 use Rattle.oraddr.specs.declared.record.Record.{Record}
 use Rattle.table.specs.Formed.{Formed}
-use Rattle.table.specs.Settle.{addLevel, addLevels, begun}
+use Rattle.table_settle.specs.Settle.{addLevel, addLevels, begun}
 use Rattle.table.specs.Table.{Table, Token}
 use Rattle.mapping.specs.Answers.{addressNumber, recordNumber, toldAddress, toldRecord}
 use Rattle.mapping.specs.Results.{AddressResult, RecordResult}
 use Rattle.mapping.specs.ToAddress.{toAddress}
 use Rattle.mapping.specs.ToRecord.{toRecord}
-use Rattle.mapping.specs.declared.to_address.ToAddress.{ToAddress}
-use Rattle.mapping.specs.declared.to_record.RecordAnswer.the-variants.{Done}
-use Rattle.mapping.specs.declared.to_record.ToRecord.{ToRecord}
+use Rattle.mapping.specs.declared.answers.ToAddress.{ToAddress}
+use Rattle.mapping.specs.declared.answers.RecordAnswer.the-variants.{Done}
+use Rattle.mapping.specs.declared.answers.ToRecord.{ToRecord}
 use Rattle.mapping.proofs.Laws.Short.{address-short}
 use Rattle.soundness.specs.Check.{candidateOf, named}
 use Rattle.soundness.specs.Sound.{backBy, comesBack, textOf}

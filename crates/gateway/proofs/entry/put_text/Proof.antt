@@ -6,8 +6,8 @@ use native.Mathlib.Omega.{arith}
 use Rattle.chars.proofs.Laws.Write.{wrote-length, wrote-taken}
 use Rattle.oraddr.specs.View.{view}
 use Rattle.oraddr.proofs.Laws.Canonical.{canonical-view}
-use Rattle.ortext.specs.Write.{remaining}
-use Rattle.ortext.proofs.Laws.Write.{text-bound}
+use Rattle.ortext_write.specs.Write.{remaining}
+use Rattle.ortext_write.proofs.Laws.Write.{text-bound}
 use borrow.Author.Needs.{needs}
 use Rattle.gateway.proofs.entry.put_text.Statement.{statement}
 use Rattle.gateway.proofs.entry.put_text.Tie as tie

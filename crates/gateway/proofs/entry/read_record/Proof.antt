@@ -2,9 +2,9 @@
 -- Assumes nothing.
 use mathlib.Core.Path.{ap, _∙_}
 use Rattle.oraddr.specs.Add.{told}
-use Rattle.ortext.specs.Answers.{answered, reading}
-use Rattle.ortext.specs.Apply.{again, read, refused, unread}
-use Rattle.ortext.specs.declared.read.Answer.{Answer}
+use Rattle.ortext_read.specs.Answers.{answered, reading}
+use Rattle.ortext_read.specs.Apply.{again, read, refused, unread}
+use Rattle.ortext_read.specs.declared.read.Answer.{Answer}
 use Rattle.gateway.specs.Texts.{readOutcome}
 use Rattle.gateway.proofs.Laws.Texts.{read-outcome}
 use borrow.Author.Needs.{needs}

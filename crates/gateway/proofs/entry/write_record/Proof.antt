@@ -4,7 +4,7 @@ use mathlib.Core.Path.{sym, ap, _∙_}
 use borrow.Author.Tests.{not-false, not-true}
 use Rattle.mapping.specs.Answers.{addressLine, addressNumber, toldAddress}
 use Rattle.mapping.specs.Results.{refusedAddress}
-use Rattle.mapping.specs.declared.to_address.ToAddress.{ToAddress}
+use Rattle.mapping.specs.declared.answers.ToAddress.{ToAddress}
 use Rattle.gateway.specs.Texts.{textOfRecord}
 use borrow.Author.Needs.{needs}
 use Rattle.gateway.proofs.entry.write_record.Statement.{statement}

@@ -6,7 +6,7 @@ use native.Mathlib.Omega.{arith}
 use lib.Seq.{length-take-le}
 use Rattle.oraddr.specs.View.{view}
 use Rattle.oraddr.proofs.Laws.Canonical.{canonical-view}
-use Rattle.ortext.proofs.Laws.Write.{text-bound}
+use Rattle.ortext_write.proofs.Laws.Write.{text-bound}
 use Rattle.mapping_cases.proofs.print.print_text.Statement.{statement}
 use Rattle.mapping_cases.proofs.print.print_text.Tie as tie
 

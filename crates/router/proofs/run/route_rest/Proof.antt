@@ -6,7 +6,7 @@ use native.Mathlib.Omega.{arith}
 use borrow.Author.Tests.{le-ltb, lt-ltb}
 use lib.ListN.{length, drop, length-drop}
 use Rattle.chars.proofs.Laws.Lists.{true-not-false}
-use Rattle.router.specs.Line.{longestLine}
+use Rattle.router_line.specs.Line.{longestLine}
 use Rattle.router.proofs.Laws.Run.{routing-wait, went-start}
 use borrow.Author.Needs.{needs}
 use Rattle.router.proofs.run.route_rest.Statement.{statement}

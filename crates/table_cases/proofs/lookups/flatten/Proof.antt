@@ -6,7 +6,7 @@ use Prim.Native.Nat.{ℕ, _+_, _≤_, _-_}
 use native.Mathlib.Omega.{arith}
 use lib.ListN.{length, getD}
 use lib.Seq.{getD-set-same}
-use Rattle.table.specs.Looked.{Ended}
+use Rattle.table_lookup.specs.Looked.{Ended}
 use Rattle.table_cases.proofs.Laws.{ended-none, ended-more}
 use Rattle.table_cases.proofs.lookups.flatten.Statement.{statement}
 use Rattle.table_cases.proofs.lookups.flatten.Tie as tie

@@ -1,7 +1,7 @@
 -- `text_cases::print::print_name` is safe: a name that is read has its pieces in the text.
 -- Assumes nothing.
 use borrow.Author.Needs.{needs}
-use Rattle.ortext.specs.Places.{NameReading}
+use Rattle.ortext_name.specs.Places.{NameReading}
 use Rattle.text_cases.proofs.print.print_name.Statement.{statement}
 use Rattle.text_cases.proofs.print.print_name.Tie as tie
 

@@ -1,0 +1,161 @@
+-- `mapping_to_address::to_address::write_routed` meets its contract: the local part, the `@`, the levels in front and the row's domain, one after the
+-- other.
+-- Assumes nothing.
+use mathlib.Core.Path.{_≡_, sym, _∙_}
+use mathlib.Core.List.{List}
+use Prim.Native.Nat.{ℕ, _+_, _≤_}
+use native.Mathlib.Omega.{arith}
+use lib.ListN.{length, take, drop, set, length-set}
+use lib.Seq.{length-take-le}
+use Rattle.chars.specs.Write.{Wrote}
+use Rattle.chars.proofs.Laws.Write.{wrote-length, wrote-one, wrote-taken, wrote-then}
+use Rattle.oraddr.specs.Attributes.{levels}
+use Rattle.oraddr.specs.View.{view}
+use Rattle.oraddr.proofs.Laws.Canonical.{canonical-view}
+use Rattle.ortext_segments.specs.Keys.{keys}
+use Rattle.ortext_write.specs.Write.{localText, remaining}
+use Rattle.ortext_write.proofs.Laws.Write.{local-bound}
+use Rattle.mailaddr.specs.Shape.{addressText, quotedLocal}
+use Rattle.table.specs.Table.{Token}
+use Rattle.table.specs.Rows.{between}
+use Rattle.mapping.specs.Flat.{fronts}
+use Rattle.mapping.proofs.Laws.Flat.{extended-fronts, length-fronts}
+use Rattle.mapping.proofs.Laws.Route.{length-local, length-row}
+use borrow.Author.Needs.{needs}
+use Rattle.mapping_to_address.proofs.to_address.write_routed.Statement.{statement}
+use Rattle.mapping_to_address.proofs.to_address.write_routed.Tie as tie
+
+-- the text of the local part, the levels in front, and the row's domain
+abbrev localPart : tie.Start → List ℕ
+localPart c = localText keys (remaining (c .args .route .own + c .args .route .more) (view (c .args .rec)))
+
+abbrev frontLevels : tie.Start → List Token
+frontLevels c = take (c .args .route .more) (drop (c .args .route .own) (levels (view (c .args .rec))))
+
+abbrev rowDomain : tie.Start → List ℕ
+rowDomain c = between (c .args .text .now) (c .args .route .row .domain) (c .args .route .row .«domain_end»)
+
+-- how long they are
+module _ (c : tie.Start) where
+  local-fits : length (localPart c) ≤ 1735
+  local-fits = local-bound (view (c .args .rec)) (canonical-view (c .args .rec) (c .pre .1 .0)) (c .args .route .own + c .args .route .more)
+
+  quoted-fits : length (quotedLocal (localPart c)) ≤ 1737
+  quoted-fits = length-local (c .args .rec) (c .pre .1 .0) (c .args .route .own + c .args .route .more)
+
+  front-fits : length (fronts (frontLevels c)) ≤ 520
+  front-fits = rw (c .pre .1 .1 .0 .holds) at (length-fronts (c .pre .1 .1 .0) (c .args .route .own) (c .args .route .more) (c .pre .1 .1 .1 .1))
+
+  domain-fits : length (rowDomain c) ≤ 253
+  domain-fits = length-row (c .args .text .now) (c .args .route .row) (c .pre .1 .1 .1 .0)
+
+slice-aggregate-write-local : tie.Need-slice-aggregate-write-local
+slice-aggregate-write-local c = search needs
+
+add-write-local : tie.Need-add-write-local
+add-write-local c = search needs
+
+write-local-requires : tie.Need-write-local-requires
+write-local-requires c κs = omega (arith, local-fits (c .before .before .before .before .before))
+
+-- the local part is written, and where it ends
+module _ (c : tie.After-write-local) where
+  local-text : take (c .write-local .result) (c .write-local .last .0) ≡ localPart (c .before .before .before .before .before .before)
+  local-text = wrote-taken (c .write-local .ensures) (omega (arith, local-fits (c .before .before .before .before .before .before)))
+
+  local-end : c .write-local .result ≤ length (c .write-local .last .0)
+  local-end = omega (arith, local-fits (c .before .before .before .before .before .before), c .write-local .ensures .moved, wrote-length (c .write-local .ensures))
+
+array-share-prefix-local : tie.Need-array-share-prefix-local
+array-share-prefix-local c = local-end (c .before .before)
+
+slice-aggregate-put-local : tie.Need-slice-aggregate-put-local
+slice-aggregate-put-local c = let w = c .before .before .before .write-local in sym (length-take-le (w .result) (w .last .0) (local-end (c .before .before .before)))
+
+put-local-requires : tie.Need-put-local-requires
+put-local-requires c κs =
+    let start = c .before .before .before .before .before .before .before .before .before in
+    rw (local-text (c .before .before .before)) (omega (arith, quoted-fits start, start .pre .0))
+
+-- the quoted local part is written
+sent : (c : tie.After-put-local) → let start = c .before .before .before .before .before .before .before .before .before .before in
+    Wrote (start .args .dst .now) 0 (quotedLocal (localPart start)) (c .put-local .result) (c .put-local .last .0)
+sent c = rw (local-text (c .before .before .before .before)) at (c .put-local .ensures)
+
+sent-end : (c : tie.After-put-local) → (c .put-local .result ≤ 1737) × (length (c .put-local .last .0) ≡ 2560)
+sent-end c =
+    let start = c .before .before .before .before .before .before .before .before .before .before in
+    (omega (arith, sent c .moved, quoted-fits start), wrote-length (sent c) ∙ start .pre .0)
+
+slice-write-dst : tie.Need-slice-write-dst
+slice-write-dst c = let e = sent-end (c .before .before) in omega (arith, e .0, e .1)
+
+add-put-fronts : tie.Need-add-put-fronts
+add-put-fronts c = let e = sent-end (c .before .before .before) in omega (arith, e .0)
+
+put-fronts-requires : tie.Need-put-fronts-requires
+put-fronts-requires c κs =
+    let start = c .before .before .before .before .before .before .before .before .before .before .before .before .before in
+    let e = sent-end (c .before .before .before) in
+    let f = length-fronts (start .pre .1 .1 .0) (start .args .route .own) (start .args .route .more) (start .pre .1 .1 .1 .1) in
+    (start .pre .1 .1 .1 .1, (start .pre .1 .1 .0 .ended, simp length-set (omega (arith, e .0, e .1, f))))
+
+-- the levels in front are written
+fronted : (c : tie.After-put-fronts) →
+    let p = c .before .before .before .before .put-local in
+    Wrote (set (p .last .0) (p .result) 64) (p .result + 1) (fronts (frontLevels (c .before .before .before .before .before .before .before .before .before .before .before .before .before .before))) (c .put-fronts .result) (c .put-fronts .last .0)
+fronted c = rw (c .before .before .before .before .before .before .before .before .before .before .before .before .before .before .pre .1 .1 .0 .holds) at (c .put-fronts .ensures)
+
+fronted-length : (c : tie.After-put-fronts) → length (c .put-fronts .last .0) ≡ 2560
+fronted-length c =
+    let p = c .before .before .before .before .put-local in
+    wrote-length (fronted c) ∙ length-set (p .last .0) (p .result) 64 ∙ sent-end (c .before .before .before .before) .1
+
+sub-put : tie.Need-sub-put
+sub-put c = search needs
+
+part-put-start : tie.Need-part-put-start
+part-put-start c = search needs
+
+part-put-end : tie.Need-part-put-end
+part-put-end c = search needs
+
+put-requires : tie.Need-put-requires
+unfolding between
+put-requires c κs =
+    let at = c .before .before .before .before .before in
+    let start = at .before .before .before .before .before .before .before .before .before .before .before .before .before .before in
+    omega (arith, fronted at .moved, fronted-length at, front-fits start, domain-fits start, sent-end (at .before .before .before .before) .0)
+
+same-length : tie.Need-same-length
+same-length c =
+    let at = c .before .before .before .before .before .before .before .before in
+    wrote-length (c .before .before .put .ensures) ∙ fronted-length at ∙ sym (at .before .before .before .before .before .before .before .before .before .before .before .before .before .before .pre .0)
+
+returns : tie.Need-returns
+unfolding addressText between
+returns c =
+    let at = c .before .before .before .before .before .before .before .before in
+    let start = at .before .before .before .before .before .before .before .before .before .before .before .before .before .before in
+    rw (extended-fronts (rowDomain start) (frontLevels start))
+    (wrote-then (sent (at .before .before .before .before)) (wrote-then (wrote-one 64) (wrote-then (fronted at) (c .before .before .put .ensures))))
+
+pub write-routed-spec : {M : Type 1} → statement M
+write-routed-spec =
+    tie.close
+    (tie.spec
+    slice-aggregate-write-local
+    add-write-local
+    write-local-requires
+    array-share-prefix-local
+    slice-aggregate-put-local
+    put-local-requires
+    slice-write-dst
+    add-put-fronts
+    put-fronts-requires
+    sub-put
+    part-put-start
+    part-put-end
+    put-requires
+    same-length
+    returns)

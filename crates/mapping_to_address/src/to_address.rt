@@ -1,0 +1,188 @@
+// Record to address.
+use crate::carrier::is_carrier;
+use crate::carrier::write_carried;
+use crate::levels::LEVELS_ROOM;
+use crate::levels::flatten;
+use chars::write::put;
+use mailaddr::shape::put_local;
+use mapping::answers::AddressAnswer;
+use mapping::answers::Route;
+use mapping::answers::ToAddress;
+use mapping::answers::Written;
+use mapping::answers::place;
+use mapping::answers::refused;
+use oraddr::record::Record;
+use ortext_write::write::write_local;
+use table::line::Row;
+use table::load::Loaded;
+use table::load::TableRead;
+use table::load::load;
+use table::rows::ROWS_SIZE;
+use table::rows::row_at;
+use table_lookup::extend::count_extension;
+use table_lookup::lookup::Found;
+use table_lookup::lookup::find_path;
+use table_settle::settle::count_levels;
+ghost use mathlib.Core.Path.{_≡_};
+ghost use mathlib.Core.Bool.{true};
+ghost use Prim.Native.Nat.{_+_, _≤_};
+ghost use lib.ListN.{length, take, drop};
+ghost use Rattle.chars.specs.Write.{Wrote};
+ghost use Rattle.oraddr.specs.Attributes.{levels};
+ghost use Rattle.oraddr.specs.Canonical.{canonicalRecord};
+ghost use Rattle.oraddr.specs.View.{view};
+ghost use Rattle.ortext_segments.specs.Keys.{keys};
+ghost use Rattle.ortext_write.specs.Write.{localText, remaining};
+ghost use Rattle.mailaddr.specs.Shape.{addressText};
+ghost use Rattle.table_lookup.specs.Looked.{Ended, tokensOf};
+ghost use Rattle.table_lookup.specs.Lookup.{begins};
+ghost use Rattle.table.specs.Rows.{Inside, RowInside, between, rowAt};
+ghost use Rattle.mapping.specs.Answers.{Routed, Writing, outward, toldAddress};
+ghost use Rattle.mapping.specs.Flat.{Flat, fronts};
+ghost use Rattle.mapping.specs.ToAddress.{addressOf, extended, plan, planUnder, recordToAddress, toAddress};
+
+// Room for any local part, and for any address.
+const LOCAL_ROOM: usize = 1792;
+
+pub const ADDRESS_ROOM: usize = 2560;
+
+// The route under a row whose path begins the levels.
+fn route_under(text: &[u8], row: Row, flat: &[u8], ends: &[usize]) -> Route
+    requires { ⌜ RowInside (now text) row ⌝ }
+    requires { ⌜ Ended (now flat) (now ends) 8 ⌝ }
+    requires { ⌜ begins (rowAt (now text) row .path) (tokensOf (now flat) (now ends)) ≡ true ⌝ }
+    ensures { λ r. ⌜ Routed (now (text .entry)) (tokensOf (now (flat .entry)) (now (ends .entry))) (planUnder (rowAt (now (text .entry)) row) (tokensOf (now (flat .entry)) (now (ends .entry)))) r ⌝ }
+{
+    let own = count_levels(text, row.path, row.path_end);
+    let more = count_extension(flat, ends, own);
+    Route { row, own, more }
+}
+
+// The route of a record by its levels: under its longest row, or with no level told at the gateway's domain.
+fn find_route(text: &[u8], to_domain: &[usize], table: Loaded, flat: &[u8], ends: &[usize]) -> Route
+    requires { ⌜ RowInside (now text) (table .gateway) ⌝ }
+    requires { ⌜ Inside (now text) (now «to_domain») (table .«to_domain») ⌝ }
+    requires { ⌜ Ended (now flat) (now ends) 8 ⌝ }
+    ensures { λ r. ⌜ Routed (now (text .entry)) (tokensOf (now (flat .entry)) (now (ends .entry))) (plan (outward (now (text .entry)) (now («to_domain» .entry)) table) (tokensOf (now (flat .entry)) (now (ends .entry)))) r ⌝ }
+{
+    match find_path(text, to_domain, table.to_domain, flat, ends) {
+        Found::At(i) => route_under(text, row_at(to_domain, i), flat, ends),
+        Found::Nowhere => {
+            let row = table.gateway;
+            Route {
+                row,
+                own: 0,
+                more: 0,
+            }
+        }
+    }
+}
+
+// Writes the n levels from k on, the last of them first, each with a dot.
+fn put_fronts(dst: &mut [u8], at: usize, flat: &[u8], ends: &[usize], k: usize, n: usize) -> usize
+    requires { ⌜ k + n ≤ 8 ⌝ }
+    requires { ⌜ Ended (now flat) (now ends) 8 ⌝ }
+    requires { ⌜ at + length (fronts (take n (drop k (tokensOf (now flat) (now ends))))) ≤ length (now dst) ⌝ }
+    ensures { λ r. ⌜ Wrote (now (dst .entry)) at (fronts (take n (drop k (tokensOf (now (flat .entry)) (now (ends .entry)))))) r (now (dst .exit)) ⌝ }
+{
+    let mut next = at;
+    let mut i = k + n;
+    while k < i {
+        i -= 1;
+        let a = ends[i];
+        let b = ends[i + 1];
+        let end = put(dst, next, &flat[a..b]);
+        dst[end] = b'.';
+        next = end + 1;
+    }
+    next
+}
+
+// Writes the address of a record that goes out by a route to the front of `dst`.
+fn write_routed(
+    dst: &mut [u8],
+    text: &[u8],
+    route: Route,
+    rec: Record,
+    flat: &[u8],
+    ends: &[usize],
+) -> usize
+    requires { ⌜ length (now dst) ≡ 2560 ⌝ }
+    requires { ⌜ canonicalRecord rec ≡ true ⌝ }
+    requires { ⌜ Flat (levels (view rec)) (now flat) (now ends) ⌝ }
+    requires { ⌜ RowInside (now text) (route .row) ⌝ }
+    requires { ⌜ route .own + route .more ≤ 8 ⌝ }
+    ensures { λ r. ⌜ Wrote (now (dst .entry)) 0 (addressText (localText keys (remaining (route .own + route .more) (view rec))) (extended (between (now (text .entry)) (route .row .domain) (route .row .«domain_end»)) (take (route .more) (drop (route .own) (levels (view rec)))))) r (now (dst .exit)) ⌝ }
+{
+    let own = route.own;
+    let more = route.more;
+    let mut local = [0u8; LOCAL_ROOM];
+    let m = write_local(&mut local, rec, own + more);
+    let at = put_local(dst, 0, &local[..m]);
+    dst[at] = b'@';
+    let from = put_fronts(dst, at + 1, flat, ends, own, more);
+    let row = route.row;
+    let a = row.domain;
+    let b = row.domain_end;
+    put(dst, from, &text[a..b])
+}
+
+// Writes the address of a canonical record to the front of `dst`.
+pub fn write_address(
+    dst: &mut [u8],
+    text: &[u8],
+    to_domain: &[usize],
+    table: Loaded,
+    rec: Record,
+) -> Written
+    requires { ⌜ length (now dst) ≡ 2560 ⌝ }
+    requires { ⌜ RowInside (now text) (table .gateway) ⌝ }
+    requires { ⌜ Inside (now text) (now «to_domain») (table .«to_domain») ⌝ }
+    requires { ⌜ canonicalRecord rec ≡ true ⌝ }
+    ensures { λ r. ⌜ Writing (addressOf (outward (now (text .entry)) (now («to_domain» .entry)) table) (view rec)) r (now (dst .exit)) ⌝ }
+{
+    let mut flat = [0u8; LEVELS_ROOM];
+    let mut ends = [0usize; 9];
+    flatten(rec, &mut flat, &mut ends);
+    let gateway = table.gateway;
+    if is_carrier(text, gateway, rec, &flat, &ends) {
+        let dds = rec.dds;
+        return write_carried(dst, dds);
+    }
+    let route = find_route(text, to_domain, table, &flat, &ends);
+    Written::Length(write_routed(dst, text, route, rec, &flat, &ends))
+}
+
+// A record to an address in a lent buffer, under a table that was loaded.
+pub fn map_record(
+    text: &[u8],
+    to_domain: &[usize],
+    table: Loaded,
+    rec: Record,
+    out: &mut [u8],
+) -> ToAddress
+    requires { ⌜ RowInside (now text) (table .gateway) ⌝ }
+    requires { ⌜ Inside (now text) (now «to_domain») (table .«to_domain») ⌝ }
+    ensures { λ r. ⌜ toldAddress r (now (out .exit)) ≡ toAddress (outward (now (text .entry)) (now («to_domain» .entry)) table) rec (now (out .entry)) ⌝ }
+{
+    if !rec.is_canonical() {
+        return refused(AddressAnswer::NotCanonical);
+    }
+    let mut address = [0u8; ADDRESS_ROOM];
+    match write_address(&mut address, text, to_domain, table, rec) {
+        Written::Length(n) => place(out, &address[..n]),
+        Written::NoAddress => refused(AddressAnswer::NoAddress),
+    }
+}
+
+// A record to an address in a lent buffer, under a table text.
+pub fn record_to_address(table: &[u8], rec: Record, out: &mut [u8]) -> ToAddress
+    ensures { λ r. ⌜ toldAddress r (now (out .exit)) ≡ recordToAddress (now (table .entry)) rec (now (out .entry)) ⌝ }
+{
+    let mut to_path = [0usize; ROWS_SIZE];
+    let mut to_domain = [0usize; ROWS_SIZE];
+    match load(table, &mut to_path, &mut to_domain) {
+        TableRead::Table(t) => map_record(table, &to_domain, t, rec, out),
+        TableRead::Malformed(line) => refused(AddressAnswer::Malformed(line)),
+    }
+}

@@ -1,0 +1,40 @@
+-- `mapping_to_record::to_record::map_shaped` meets its contract: an address is carried whole exactly where what was read is no canonical record.
+-- Assumes nothing.
+use mathlib.Core.Path.{sym, ap, _∙_}
+use borrow.Author.Needs.{needs}
+use Rattle.mailaddr.specs.Answers.{addressAt}
+use Rattle.mapping.specs.Answers.{inward, isGood, recordLine, recordNumber, toldRecord}
+use Rattle.mapping.specs.Results.{mapped}
+use Rattle.mapping.proofs.Laws.Steps.{shaped-carried, shaped-good}
+use Rattle.mapping_to_record.proofs.to_record.map_shaped.Statement.{statement}
+use Rattle.mapping_to_record.proofs.to_record.map_shaped.Tie as tie
+
+read-parted-requires : tie.Need-read-parted-requires
+read-parted-requires c κs = search needs
+
+is-good-requires : tie.Need-is-good-requires
+is-good-requires c κs = search needs
+
+returns : tie.Need-returns
+unfolding toldRecord recordNumber recordLine mapped
+returns c =
+    let at = c .before .before .before in
+    let a = at .before .before .before .before .args in
+    let r = at .read-parted .result in
+    sym (shaped-good (inward (a .text .now) (a .to-path .now) (a .table)) (addressAt (a .s .now) (a .parted)) (a .s .now) r
+    (at .read-parted .ensures) (sym (c .before .before .is-good .ensures) ∙ c .before .if1 .taken))
+
+carry-requires : tie.Need-carry-requires
+carry-requires c κs = search needs
+
+returns-2 : tie.Need-returns-2
+returns-2 c =
+    let at = c .before .before .before .before in
+    let a = at .before .before .before .before .args in
+    c .carry .ensures
+    ∙ sym (shaped-carried (inward (a .text .now) (a .to-path .now) (a .table)) (addressAt (a .s .now) (a .parted)) (a .s .now)
+    (ap isGood (sym (at .read-parted .ensures)) ∙ sym (c .before .before .before .is-good .ensures) ∙ c .before .before .if1 .left))
+
+pub map-shaped-spec : {M : Type 1} → statement M
+map-shaped-spec =
+    tie.close (tie.spec read-parted-requires is-good-requires returns carry-requires returns-2)

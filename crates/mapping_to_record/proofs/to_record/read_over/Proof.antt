@@ -1,0 +1,28 @@
+-- `mapping_to_record::to_record::read_over` meets its contract.
+-- Assumes nothing.
+use borrow.Author.Needs.{needs}
+use Rattle.chars.proofs.Laws.Lists.{failed, passed}
+use Rattle.mapping.specs.Answers.{readSettled}
+use Rattle.mapping_to_record.proofs.to_record.read_over.Statement.{statement}
+use Rattle.mapping_to_record.proofs.to_record.read_over.Tie as tie
+
+is-readable-requires : tie.Need-is-readable-requires
+is-readable-requires c κs = search needs
+
+unread-requires : tie.Need-unread-requires
+unread-requires c κs = search needs
+
+returns : tie.Need-returns
+unfolding readSettled
+returns c = rw (failed (c .before .before .is-readable .ensures) (c .before .if1 .taken)) (c .unread .ensures)
+
+read-local-requires : tie.Need-read-local-requires
+read-local-requires c κs = search needs
+
+returns-2 : tie.Need-returns-2
+unfolding readSettled
+returns-2 c = rw (passed (c .before .before .is-readable .ensures) (c .before .if1 .left)) (c .read-local .ensures)
+
+pub read-over-spec : {M : Type 1} → statement M
+read-over-spec =
+    tie.close (tie.spec is-readable-requires unread-requires returns read-local-requires returns-2)

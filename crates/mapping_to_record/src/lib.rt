@@ -1,0 +1,3 @@
+// Address to record (document 01, "Address to record").
+pub mod carrier;
+pub mod to_record;

@@ -1,9 +1,0 @@
-pub mod Answers
-pub mod Apply
-pub mod Keys
-pub mod Name
-pub mod Named
-pub mod Places
-pub mod Scan
-pub mod Segments
-pub mod Write

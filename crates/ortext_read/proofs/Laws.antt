@@ -1,0 +1,7 @@
+pub mod Adding
+pub mod Answers
+pub mod Apply
+pub mod Held
+pub mod Scanned
+pub mod Spans
+pub mod Values

@@ -1,0 +1,2 @@
+// One line of a run and its answer (document 01, "The program `orroute`").
+pub mod line;

@@ -1,0 +1,3 @@
+// The table check (document 01, "What comes back").
+pub mod candidate;
+pub mod check;

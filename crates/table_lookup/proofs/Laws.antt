@@ -1,0 +1,5 @@
+pub mod Extension
+pub mod Lookup
+pub mod Paths
+pub mod Tags
+pub mod Tails

@@ -1,0 +1,4 @@
+pub mod Levels
+pub mod Looked
+pub mod Lookup
+pub mod Tags

@@ -1,0 +1,29 @@
+-- The tag of a text, a number that texts equal case aside share, and the tags of the paths that a record's first levels make.
+-- Assumes nothing.
+use mathlib.Core.Path.{_≡_}
+use mathlib.Core.List.{List, _∷_}
+use Prim.Native.Nat.{ℕ, _*_, _+_, _%_, _<_}
+use lib.ListN.{length, getD}
+use Rattle.chars.specs.Lists.{last}
+use Rattle.chars.specs.Case.{foldCase}
+use Rattle.chars.specs.Parts.{join}
+use Rattle.table_lookup.specs.Looked.{tokensFrom}
+
+-- the tag of a text with so many bytes that ends with a byte
+abbrev pub tagBy : ℕ → ℕ → ℕ
+tagBy size end = size % 65536 * 256 + end
+
+-- the last byte, letter case aside, of a text with a tab before it
+unfoldable pub endByte : List ℕ → ℕ
+unfolding last foldCase
+endByte s = foldCase (last (9 ∷ s))
+
+-- the tag of a text
+unfoldable pub tagOf : List ℕ → ℕ
+unfolding endByte
+tagOf s = tagBy (length s) (endByte s)
+
+-- The tags of the paths that the first levels make, one level, two, and so on up to all eight.
+pub record Tagged (s ends tags : List ℕ) : Type 0 where
+  pub size : length tags ≡ 8
+  pub each : (k : ℕ) → k < 8 → getD tags k 0 ≡ tagOf (join 9 (tokensFrom s ends 0 (k + 1)))
