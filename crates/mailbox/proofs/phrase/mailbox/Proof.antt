@@ -6,7 +6,7 @@ use borrow.Author.Needs.{needs}
 use Rattle.chars.proofs.Laws.Lists.{failed, passed}
 use Rattle.mailbox.specs.Answers.{toldMailbox}
 use Rattle.mailbox.specs.Mailbox.{bareIn, bareOf}
-use Rattle.mailbox.proofs.Laws.Spec.{mailbox-bare, mailbox-named, mailbox-none}
+use Rattle.mailbox.proofs.Laws.Read.{mailbox-bare, mailbox-named, mailbox-none}
 use Rattle.mailbox.proofs.phrase.mailbox.Statement.{statement}
 use Rattle.mailbox.proofs.phrase.mailbox.Tie as tie
 

@@ -7,7 +7,7 @@ use borrow.Author.Needs.{needs}
 use Rattle.lexical.specs.Answers.{tokensOf}
 use Rattle.mailbox.specs.Answers.{namedBy, toldPhrase}
 use Rattle.mailbox.specs.Grammar.{routeAddr}
-use Rattle.mailbox.proofs.Laws.Spec.{mailbox-reads}
+use Rattle.mailbox.proofs.Laws.Read.{mailbox-reads}
 use Rattle.mailbox.proofs.phrase.named.Statement.{statement}
 use Rattle.mailbox.proofs.phrase.named.Tie as tie
 
