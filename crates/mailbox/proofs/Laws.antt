@@ -1,14 +1,7 @@
 pub mod Address
 pub mod AddressSame
-pub mod AddressWords
 pub mod Again
 pub mod Bare
 pub mod Depth
-pub mod Dotted
-pub mod Grammar
-pub mod Hops
-pub mod Lexeme
-pub mod Route
-pub mod Spec
-pub mod Words
+pub mod Read
 pub mod Written

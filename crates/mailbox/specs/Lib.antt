@@ -1,4 +1,3 @@
 pub mod Answers
-pub mod Grammar
 pub mod Mailbox
 pub mod Needless

@@ -13,7 +13,7 @@ use Rattle.chars.specs.Write.{TextResult, placedText, refusedText}
 use Rattle.mailaddr.specs.Shape.{escaped}
 use Rattle.lexical.specs.Nesting.{nestsTooDeep}
 use Rattle.lexical.specs.Tokens.{longestLine, tokensAt}
-use Rattle.mailbox.specs.Grammar.{Mailbox, anyQuoted, mailbox, meaningOf}
+use Rattle.mailbox_address.specs.Grammar.{Mailbox, anyQuoted, mailbox, meaningOf}
 
 -- a mailbox's address and the place of its phrase, as texts and numbers
 pub record Bare : Type 0 where

@@ -1,6 +1,4 @@
 // Header mailboxes: RFC 822's grammar of a mailbox over its lexical tokens, without domain literals. Request 2 of document 02.
 pub mod entry;
 pub mod phrase;
-pub mod read;
-pub mod route;
 pub mod write;

@@ -1,20 +1,21 @@
 // A line as a mailbox: an addr-spec, or a phrase and a route-addr. RFC 822, section 6.1.
-use crate::read::SpecRead;
-use crate::read::addr_spec;
-use crate::read::is_special;
-use crate::read::is_word;
-use crate::route::route_addr;
 use lexical::token::Kind;
 use lexical::token::Lexeme;
 use lexical::token::next_token;
+use mailbox_address::read::SpecRead;
+use mailbox_address::read::addr_spec;
+use mailbox_address::read::is_special;
+use mailbox_address::read::is_word;
+use mailbox_address::route::route_addr;
 ghost use mathlib.Core.Path.{_≡_};
 ghost use mathlib.Core.Bool.{_||_, true};
 ghost use Prim.Native.Nat.{_≤_};
 ghost use lib.ListN.{length};
 ghost use Rattle.lexical.specs.Answers.{Stands, tokensOf};
 ghost use Rattle.lexical.specs.Tokens.{longestLine};
-ghost use Rattle.mailbox.specs.Answers.{ReadsMailbox, ReadsPhrase, isEndKind, isSpecialKind, namedBy, noRead, wholeRead};
-ghost use Rattle.mailbox.specs.Grammar.{addrSpec, phraseFrom, whole};
+ghost use Rattle.mailbox.specs.Answers.{ReadsMailbox, ReadsPhrase, namedBy, noRead, wholeRead};
+ghost use Rattle.mailbox_address.specs.Answers.{isEndKind, isSpecialKind};
+ghost use Rattle.mailbox_address.specs.Grammar.{addrSpec, phraseFrom, whole};
 ghost use Rattle.mailbox.specs.Mailbox.{bareIn, bareOf};
 
 // Where a phrase ends, and the token behind it.

@@ -15,11 +15,11 @@ use Rattle.mailaddr.specs.Shape.{Address, inner, shapeOf, unescaped, unquotedLo
 use Rattle.mailaddr.proofs.Laws.Closing.{closes}
 use Rattle.mailaddr.proofs.Laws.Shape.{IsLocal, Quoted, shape-domain, shape-local, shape-text}
 use Rattle.lexical.specs.Tokens.{Word, longestLine, tokensAt, tokensFrom}
-use Rattle.mailbox.specs.Grammar.{addrSpec, allowed, anyQuoted, atDomain, behind, domain, ended, localPart, mailbox, meaningOf, orElse, whole, withDomain, withLocal}
+use Rattle.mailbox_address.specs.Grammar.{addrSpec, allowed, anyQuoted, atDomain, behind, domain, ended, localPart, mailbox, meaningOf, orElse, whole, withDomain, withLocal}
 use Rattle.mailbox.specs.Mailbox.{bareIn, bareOf, emptyStart, read, reading, readingOf}
 use Rattle.lexical.proofs.Laws.AddressNesting.{address-shallow}
 use Rattle.lexical.proofs.Laws.AddressTokens.{at-no-atom, end-no-atom, quoted-closing, tokens-at, tokens-quoted}
-use Rattle.mailbox.proofs.Laws.AddressWords.{atomWords, dotted-atoms, dotted-last, noDot, words-split, words-unquoted}
+use Rattle.mailbox_address.proofs.Laws.AddressWords.{atomWords, dotted-atoms, dotted-last, noDot, words-split, words-unquoted}
 
 -- ---- the local part
 

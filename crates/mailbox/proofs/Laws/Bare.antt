@@ -14,11 +14,11 @@ use Rattle.mailaddr.specs.Shape.{escaped, isText, shapeOf, unquotedLocal}
 use Rattle.mailaddr.proofs.Laws.Closing.{escaped-longer, none-some, some-same}
 use Rattle.mailaddr.proofs.Laws.Shape.{IsLocal, quoted-text, shape-one, unquoted-text}
 use Rattle.lexical.specs.Tokens.{tokensAt}
-use Rattle.mailbox.specs.Grammar.{Mailbox, anyQuoted, mailbox, meaningOf}
+use Rattle.mailbox_address.specs.Grammar.{Mailbox, anyQuoted, mailbox, meaningOf}
 use Rattle.mailbox.specs.Mailbox.{Bare, bareIn, bareOf, bareText, localText}
 use Rattle.lexical.proofs.Laws.Line.{line-tokens}
-use Rattle.mailbox.proofs.Laws.Words.{words-atoms, words-bytes, words-text}
-use Rattle.mailbox.proofs.Laws.Grammar.{MailboxIn, mailbox-in}
+use Rattle.mailbox_address.proofs.Laws.Words.{words-atoms, words-bytes, words-text}
+use Rattle.mailbox_address.proofs.Laws.Grammar.{MailboxIn, mailbox-in}
 
 -- what a line of n bytes reads as
 record BareIn (n : ℕ) (b : Bare) : Type 0 where

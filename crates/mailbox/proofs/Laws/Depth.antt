@@ -7,7 +7,7 @@ use Rattle.chars.specs.Lists.{bytes, first, member}
 use Rattle.chars.specs.Parts.{join}
 use Rattle.mailaddr.specs.Shape.{more}
 use Rattle.lexical.specs.Comment.{comment, content, contentBy, contentStep}
-use Rattle.mailbox.specs.Grammar.{addrSpec, allowed, alone, anyQuoted, atDomain, behind, domain, dotted, ended, localPart, mailbox, meaningOf, orElse, whole, withDomain, withLocal}
+use Rattle.mailbox_address.specs.Grammar.{addrSpec, allowed, alone, anyQuoted, atDomain, behind, domain, dotted, ended, localPart, mailbox, meaningOf, orElse, whole, withDomain, withLocal}
 use Rattle.mailbox.specs.Mailbox.{bareIn, bareOf, emptyStart, read, reading, readingOf, tooDeep}
 use Rattle.lexical.specs.Nesting.{deepest, nestComment, nestOf, nestOutside, nestsTooDeep}
 use Rattle.lexical.specs.Space.{isFold, isSpace}

@@ -13,16 +13,18 @@ use Rattle.chars.proofs.Laws.Lists.{by-test, or-cases, true-not-false}
 use Rattle.mailaddr.proofs.Laws.Closing.{neither}
 use Rattle.lexical.specs.Answers.{tokensBy, tokensOf}
 use Rattle.lexical.specs.Tokens.{Token, Word, tokensAt, word}
-use Rattle.mailbox.specs.Answers.{ReadsMailbox, ReadsSpec, SpecText, isEndKind, isSpecialKind, isWordKind, namedBy, specText, toldMailbox, toldSpec, wholeRead}
-use Rattle.mailbox.specs.Grammar.{AddrSpec, Mailbox, addrSpec, addrSpecIn, allowed, anyQuoted, atDomain, closedBy, domain, dotted, ended, localPart, mailbox, meaningOf, named, orElse, phraseFrom, routeAddr, routeIn, whole, withLocal}
+use Rattle.mailbox.specs.Answers.{ReadsMailbox, namedBy, toldMailbox, wholeRead}
+use Rattle.mailbox_address.proofs.Laws.Spec.{behind-other}
+use Rattle.mailbox_address.specs.Answers.{ReadsSpec, SpecText, isEndKind, isSpecialKind, isWordKind, specText, toldSpec}
+use Rattle.mailbox_address.specs.Grammar.{AddrSpec, Mailbox, addrSpec, addrSpecIn, allowed, anyQuoted, atDomain, closedBy, domain, dotted, ended, localPart, mailbox, meaningOf, named, orElse, phraseFrom, routeAddr, routeIn, whole, withLocal}
 use Rattle.mailbox.specs.Mailbox.{Bare, bareOf}
 use Rattle.mailbox.specs.declared.phrase.MailboxRead.{MailboxRead}
-use Rattle.mailbox.specs.declared.read.SpecRead.{SpecRead}
+use Rattle.mailbox_address.specs.declared.read.SpecRead.{SpecRead}
 use Rattle.lexical.specs.declared.token.Kind.{Kind}
 use Rattle.lexical.specs.declared.token.Kind.the-variants.{Atom, Bad, End, Quoted, Special}
 use Rattle.lexical.specs.declared.token.Lexeme.{Lexeme}
-use Rattle.mailbox.proofs.Laws.Dotted.{dotted-alone}
-use Rattle.mailbox.proofs.Laws.Lexeme.{word-tokens, wordAt}
+use Rattle.mailbox_address.proofs.Laws.Dotted.{dotted-alone}
+use Rattle.mailbox_address.proofs.Laws.Lexeme.{word-tokens, wordAt}
 
 -- ---- the whole line
 

@@ -2,7 +2,7 @@
 -- Assumes nothing.
 use borrow.Author.Needs.{needs}
 use Rattle.lexical.specs.Answers.{tokensOf}
-use Rattle.mailbox.specs.Grammar.{addrSpec}
+use Rattle.mailbox_address.specs.Grammar.{addrSpec}
 use Rattle.mailbox.proofs.Laws.Read.{mailbox-reads}
 use Rattle.mailbox.proofs.phrase.bare.Statement.{statement}
 use Rattle.mailbox.proofs.phrase.bare.Tie as tie

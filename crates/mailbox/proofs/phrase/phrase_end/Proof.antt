@@ -8,8 +8,8 @@ use lib.ListN.{length}
 use Rattle.chars.proofs.Laws.Lists.{failed, passed}
 use Rattle.lexical.specs.Answers.{Stands, tokensOf}
 use Rattle.mailbox.specs.Answers.{toldPhrase}
-use Rattle.mailbox.specs.Grammar.{phraseFrom}
-use Rattle.mailbox.proofs.Laws.Lexeme.{word-ahead}
+use Rattle.mailbox_address.specs.Grammar.{phraseFrom}
+use Rattle.mailbox_address.proofs.Laws.Lexeme.{word-ahead}
 use Rattle.mailbox.proofs.Laws.Read.{phrase-over, phrase-word}
 use Rattle.mailbox.proofs.phrase.phrase_end.Statement.{statement}
 use Rattle.mailbox.proofs.phrase.phrase_end.Tie as tie
