@@ -33,21 +33,27 @@ twoDigits s k =
     ((getD s k 0 - 48) * 10 + (getD s (k + 1) 0 - 48)) noNumber
 
 -- "month names are written as RFC 822 spells them"
-abbrev pub firstMonths : List (List ℕ)
-unfolding bytes
-firstMonths = bytes "Jan" ∷ bytes "Feb" ∷ bytes "Mar" ∷ bytes "Apr" ∷ bytes "May" ∷ bytes "Jun" ∷ []
-
-abbrev pub lastMonths : List (List ℕ)
-unfolding bytes
-lastMonths = bytes "Jul" ∷ bytes "Aug" ∷ bytes "Sep" ∷ bytes "Oct" ∷ bytes "Nov" ∷ bytes "Dec" ∷ []
-
 abbrev pub monthNames : List (List ℕ)
-monthNames = firstMonths ++ lastMonths
+unfolding bytes
+monthNames =
+    bytes "Jan" ∷ bytes "Feb" ∷ bytes "Mar" ∷ bytes "Apr" ∷ bytes "May" ∷ bytes "Jun" ∷ bytes "Jul" ∷ bytes "Aug" ∷ bytes "Sep" ∷ bytes "Oct"
+    ∷ bytes "Nov" ∷ bytes "Dec" ∷ []
 
 -- "A day name may be read, must be one of the seven"
 abbrev pub dayNames : List (List ℕ)
 unfolding bytes
 dayNames = bytes "Mon" ∷ bytes "Tue" ∷ bytes "Wed" ∷ bytes "Thu" ∷ bytes "Fri" ∷ bytes "Sat" ∷ bytes "Sun" ∷ []
+
+-- the code's tables: names of three letters, one behind the other
+unfoldable pub threes : List ℕ → List (List ℕ)
+threes [] = []
+threes (a ∷ []) = []
+threes (a ∷ b ∷ []) = []
+threes (a ∷ b ∷ c ∷ s) = (a ∷ b ∷ c ∷ []) ∷ threes s
+
+unfoldable pub monthLetters : List ℕ
+unfolding bytes
+monthLetters = bytes "JanFebMarAprMayJunJulAugSepOctNovDec"
 
 -- the number, from 1, of the first of the names that a text is, "Letters are compared case aside"; 0 where it is none
 unfoldable pub numberIn : ℕ → List (List ℕ) → List ℕ → ℕ

@@ -12,7 +12,7 @@ ghost use Prim.Native.Nat.{_<_};
 ghost use lib.ListN.{take, drop};
 ghost use Rattle.dates.specs.declared.date.Second.the-variants.{At, Absent};
 ghost use Rattle.dates.specs.Answers.{reading};
-ghost use Rattle.dates.specs.Read.{dateNames, dayNames, firstMonths, kept, lastMonths, monthNames, numberIn, offsetOf, oneDigit, readBody, readDate, readRest, readUtc, restEnd, restWith, signed, spacedAt, twoDigits, utcEnd, utcNames, utcWith, zoneOf};
+ghost use Rattle.dates.specs.Read.{dateNames, dayNames, kept, monthLetters, monthNames, numberIn, offsetOf, oneDigit, readBody, readDate, readRest, readUtc, restEnd, restWith, signed, spacedAt, threes, twoDigits, utcEnd, utcNames, utcWith, zoneOf};
 
 const NO_NUMBER: usize = 100;
 
@@ -57,93 +57,44 @@ fn two_digits(s: &[u8], k: usize) -> usize
     (wide(a) - 48) * 10 + (wide(b) - 48)
 }
 
-// The number of a month of the first half by its name, or 0.
-fn first_month(s: &[u8]) -> usize
-    ensures { λ r. ⌜ r ≡ numberIn 1 firstMonths (now (s .entry)) ⌝ }
+// The number, from 1, of the first of the names that a text is, case aside; 0 where it is none. The names have three letters each, and
+// stand one behind the other.
+fn number_in(names: &[u8], s: &[u8]) -> usize
+    ensures { λ r. ⌜ r ≡ numberIn 1 (threes (now (names .entry))) (now (s .entry)) ⌝ }
 {
-    if same_text(b"Jan", s) {
-        return 1;
-    }
-    if same_text(b"Feb", s) {
-        return 2;
-    }
-    if same_text(b"Mar", s) {
-        return 3;
-    }
-    if same_text(b"Apr", s) {
-        return 4;
-    }
-    if same_text(b"May", s) {
-        return 5;
-    }
-    if same_text(b"Jun", s) {
-        return 6;
+    let mut from = 0;
+    let mut number = 1;
+    while 3 <= names.len() - from {
+        let next = from + 3;
+        if same_text(&names[from..next], s) {
+            return number;
+        }
+        from = next;
+        number += 1;
     }
     0
 }
 
-// The same of the second half.
-fn last_month(s: &[u8]) -> usize
-    ensures { λ r. ⌜ r ≡ numberIn 7 lastMonths (now (s .entry)) ⌝ }
+// The months' names, one behind the other.
+pub(crate) fn month_letters() -> [u8; 36]
+    ensures { λ r. ⌜ r ≡ monthLetters ⌝ }
 {
-    if same_text(b"Jul", s) {
-        return 7;
-    }
-    if same_text(b"Aug", s) {
-        return 8;
-    }
-    if same_text(b"Sep", s) {
-        return 9;
-    }
-    if same_text(b"Oct", s) {
-        return 10;
-    }
-    if same_text(b"Nov", s) {
-        return 11;
-    }
-    if same_text(b"Dec", s) {
-        return 12;
-    }
-    0
+    *b"JanFebMarAprMayJunJulAugSepOctNovDec"
 }
 
 // The number of a month by its name, or 0.
 fn month_number(s: &[u8]) -> usize
     ensures { λ r. ⌜ r ≡ numberIn 1 monthNames (now (s .entry)) ⌝ }
 {
-    let k = first_month(s);
-    if k != 0 {
-        return k;
-    }
-    last_month(s)
+    let names = month_letters();
+    number_in(&names, s)
 }
 
 // The number of a day by its name, or 0.
 fn day_number(s: &[u8]) -> usize
     ensures { λ r. ⌜ r ≡ numberIn 1 dayNames (now (s .entry)) ⌝ }
 {
-    if same_text(b"Mon", s) {
-        return 1;
-    }
-    if same_text(b"Tue", s) {
-        return 2;
-    }
-    if same_text(b"Wed", s) {
-        return 3;
-    }
-    if same_text(b"Thu", s) {
-        return 4;
-    }
-    if same_text(b"Fri", s) {
-        return 5;
-    }
-    if same_text(b"Sat", s) {
-        return 6;
-    }
-    if same_text(b"Sun", s) {
-        return 7;
-    }
-    0
+    number_in(b"MonTueWedThuFriSatSun", s)
 }
 
 // Signed minutes, made from sign and number.
@@ -226,7 +177,7 @@ fn behind(s: &[u8], k: usize) -> &[u8]
 }
 
 // The three bytes from a place on, or as many as there are.
-fn three(s: &[u8], k: usize) -> &[u8]
+pub(crate) fn three(s: &[u8], k: usize) -> &[u8]
     requires { ⌜ k < 100 ⌝ }
     ensures { λ r. ⌜ now r ≡ take 3 (drop k (now (s .entry))) ⌝ }
 {

@@ -1,6 +1,8 @@
 // Dates, written.
 use crate::date::DateTime;
 use crate::date::Second;
+use crate::read::month_letters;
+use crate::read::three;
 use chars::write::put;
 ghost use mathlib.Core.Path.{_≡_};
 ghost use mathlib.Core.Bool.{cond, true};
@@ -16,9 +18,6 @@ ghost use Rattle.dates.specs.Write.{dateSecondText, dateText, two, utcSe
 
 // Room for a date in either form.
 pub const DATE_ROOM: usize = 32;
-
-// The months' names, one after the other.
-const MONTHS: [u8; 36] = *b"JanFebMarAprMayJunJulAugSepOctNovDec";
 
 // Writes the last two digits of a number.
 fn put_two(dst: &mut [u8], at: usize, n: usize) -> usize
@@ -78,13 +77,8 @@ fn put_month(dst: &mut [u8], at: usize, month: usize) -> usize
     requires { ⌜ at + 3 ≤ length (now dst) ⌝ }
     ensures { λ r. ⌜ Wrote (now (dst .entry)) at (getD monthNames (month - 1) []) r (now (dst .exit)) ⌝ }
 {
-    let k = 3 * (month - 1);
-    dst[at] = MONTHS[k];
-    let second = at + 1;
-    dst[second] = MONTHS[k + 1];
-    let third = second + 1;
-    dst[third] = MONTHS[k + 2];
-    third + 1
+    let names = month_letters();
+    put(dst, at, three(&names, 3 * (month - 1)))
 }
 
 // Writes the seconds of a UTCTime.

@@ -5,17 +5,18 @@ use mathlib.Core.Path.{_≡_, refl, sym, ap, _∙_}
 use mathlib.Core.Bool.{true, false, _&&_, cond}
 use mathlib.Core.List.{List, [], _∷_, _++_}
 use mathlib.Core.Option.{some}
-use Prim.Native.Nat.{ℕ, zero, suc, _+_, _-_, _*_, _/_, _%_, _≤_, _<_}
+use Prim.Native.Nat.{ℕ, suc, _+_, _-_, _*_, _/_, _%_, _≤_, zero-le}
 use native.Mathlib.Omega.{arith}
-use borrow.Author.Tests.{le-leb, leb-true, ne-eqb}
-use lib.Dec.{eqb, leb}
+use borrow.Author.Tests.{le-leb, leb-true, ltb-false, ltb-true, ne-eqb}
+use lib.Dec.{eqb, leb, ltb}
 use lib.IntN.{ℤ, pos, negsuc, natAbs}
-use lib.ListN.{length, getD, take, drop}
+use lib.ListN.{length, getD, take, drop, List·getD-eq-default}
 use lib.Signed.{nonNeg}
-use Rattle.chars.specs.Case.{agree, foldCase, sameByte, sameText}
+use Rattle.chars.specs.Case.{sameText}
 use Rattle.chars.specs.Class.{between, isDigit}
 use Rattle.chars.specs.Lists.{bytes}
 use Rattle.chars.proofs.Laws.Case.{same-length}
+use Rattle.chars.proofs.Laws.Class.{on-range}
 use Rattle.chars.proofs.Laws.Lists.{and-both, and-left, and-right, by-test}
 use Rattle.dates.specs.Date.{daysIn, isDate, isDay, isSecond, isTime, monthDays, mostOffset}
 use Rattle.dates.specs.Read.{dateNames, kept, monthNames, numberIn, offsetOf, readBody, readDate, readRest, readUtc, restDate, restEnd, restWith, signed, spacedAt, twoDigits, utcDate, utcEnd, utcNames, utcWith, zoneOf}
@@ -24,7 +25,7 @@ use Rattle.dates.specs.declared.date.DateTime.{DateTime}
 use Rattle.dates.specs.declared.date.Second.{Second}
 use Rattle.dates.specs.declared.date.Second.the-variants.{At, Absent}
 use Rattle.dates.proofs.Laws.Convert.{date-date, utc-date}
-use Rattle.dates.proofs.Laws.Month.{date-month, date-offset, letters, month-letters, named}
+use Rattle.dates.proofs.Laws.Month.{date-month, date-offset, month-first, month-length, month-number, nameOf}
 use Rattle.dates.proofs.Laws.Written.{zone-length}
 
 -- ---- digits
@@ -73,20 +74,10 @@ zone-date z h =
 -- ---- what a date's numbers are below
 
 month-most : (m : ℕ) → getD monthDays m 0 ≤ 31
-month-most zero = omega arith
-month-most (suc zero) = omega arith
-month-most (suc (suc zero)) = omega arith
-month-most (suc (suc (suc zero))) = omega arith
-month-most (suc (suc (suc (suc zero)))) = omega arith
-month-most (suc (suc (suc (suc (suc zero))))) = omega arith
-month-most (suc (suc (suc (suc (suc (suc zero)))))) = omega arith
-month-most (suc (suc (suc (suc (suc (suc (suc zero))))))) = omega arith
-month-most (suc (suc (suc (suc (suc (suc (suc (suc zero)))))))) = omega arith
-month-most (suc (suc (suc (suc (suc (suc (suc (suc (suc zero))))))))) = omega arith
-month-most (suc (suc (suc (suc (suc (suc (suc (suc (suc (suc zero)))))))))) = omega arith
-month-most (suc (suc (suc (suc (suc (suc (suc (suc (suc (suc (suc zero))))))))))) = omega arith
-month-most (suc (suc (suc (suc (suc (suc (suc (suc (suc (suc (suc (suc zero)))))))))))) = omega arith
-month-most (suc (suc (suc (suc (suc (suc (suc (suc (suc (suc (suc (suc (suc k))))))))))))) = omega arith
+month-most m =
+    by-test (ltb m 13)
+    (λ e. leb-true (getD monthDays m 0) 31 (on-range (λ k. leb (getD monthDays k 0) 31) (λ _. true) 0 13 tt m zero-le (omega (arith, ltb-true m 13 e))))
+    (λ e. let z : getD monthDays m 0 ≡ 0 = List·getD-eq-default monthDays 0 (ltb-false m 13 e) in omega arith)
 
 days-most : (y m : ℕ) → daysIn y m ≤ 31
 unfolding daysIn
@@ -178,37 +169,13 @@ utc-back d h = ap kept (utc-at (d .year) (d .month) (d .day) (d .hour) (d .minut
 
 -- ---- date-time
 
--- a month's name is that month's, and begins with no comma
-month-number : (k : ℕ) → k < 12 → numberIn 1 monthNames (named k) ≡ suc k
-unfolding numberIn sameText agree sameByte foldCase bytes
-month-number zero h = refl
-month-number (suc zero) h = refl
-month-number (suc (suc zero)) h = refl
-month-number (suc (suc (suc zero))) h = refl
-month-number (suc (suc (suc (suc zero)))) h = refl
-month-number (suc (suc (suc (suc (suc zero))))) h = refl
-month-number (suc (suc (suc (suc (suc (suc zero)))))) h = refl
-month-number (suc (suc (suc (suc (suc (suc (suc zero))))))) h = refl
-month-number (suc (suc (suc (suc (suc (suc (suc (suc zero)))))))) h = refl
-month-number (suc (suc (suc (suc (suc (suc (suc (suc (suc zero))))))))) h = refl
-month-number (suc (suc (suc (suc (suc (suc (suc (suc (suc (suc zero)))))))))) h = refl
-month-number (suc (suc (suc (suc (suc (suc (suc (suc (suc (suc (suc zero))))))))))) h = refl
-month-number (suc (suc (suc (suc (suc (suc (suc (suc (suc (suc (suc (suc k)))))))))))) h = absurd (omega arith)
-
-month-first : (k : ℕ) → k < 12 → eqb (getD letters (3 * k) 0) 44 ≡ false
-month-first zero h = refl
-month-first (suc zero) h = refl
-month-first (suc (suc zero)) h = refl
-month-first (suc (suc (suc zero))) h = refl
-month-first (suc (suc (suc (suc zero)))) h = refl
-month-first (suc (suc (suc (suc (suc zero))))) h = refl
-month-first (suc (suc (suc (suc (suc (suc zero)))))) h = refl
-month-first (suc (suc (suc (suc (suc (suc (suc zero))))))) h = refl
-month-first (suc (suc (suc (suc (suc (suc (suc (suc zero)))))))) h = refl
-month-first (suc (suc (suc (suc (suc (suc (suc (suc (suc zero))))))))) h = refl
-month-first (suc (suc (suc (suc (suc (suc (suc (suc (suc (suc zero)))))))))) h = refl
-month-first (suc (suc (suc (suc (suc (suc (suc (suc (suc (suc (suc zero))))))))))) h = refl
-month-first (suc (suc (suc (suc (suc (suc (suc (suc (suc (suc (suc (suc k)))))))))))) h = absurd (omega arith)
+-- three letters, one by one
+three-letters : (n : List ℕ) → length n ≡ 3 → n ≡ getD n 0 0 ∷ getD n 1 0 ∷ getD n 2 0 ∷ []
+three-letters [] h = absurd (omega arith)
+three-letters (a ∷ []) h = absurd (omega arith)
+three-letters (a ∷ b ∷ []) h = absurd (omega arith)
+three-letters (a ∷ b ∷ c ∷ []) h = refl
+three-letters (a ∷ b ∷ c ∷ d ∷ s) h = absurd (omega arith)
 
 -- a date-time with its month's name letter by letter
 abbrev spelled : ℕ → ℕ → ℕ → DateTime → List ℕ
@@ -256,26 +223,16 @@ module _ (y m d hh mm : ℕ) (z : ℤ) where
     date-at s e h =
         body-at s e ∙ ap (λ (n : ℕ). readRest n (drop 2 (text s))) (day-at s h) ∙ rest-spaced s ∙ ap kept (rest-at s h)
 
--- a date-time as it is written
-spelled-is : (d : DateTime) → isDate d ≡ true
-    → dateText d ≡ spelled (getD letters (3 * (d .month - 1)) 0) (getD letters (3 * (d .month - 1) + 1) 0) (getD letters (3 * (d .month - 1) + 2) 0) d
-unfolding dateText
-spelled-is d h =
-    let m = date-month d h in
-    ap (λ (n : List ℕ). two (d .day) ++ (32 ∷ []) ++ n ++ (32 ∷ two (d .year)) ++ (32 ∷ two (d .hour)) ++ (58 ∷ two (d .minute)) ++ dateSecondText (d .second) ++ (32 ∷ []) ++ zoneText (d .offset))
-    (sym (month-letters (d .month) (m .0) (m .1)))
-
 pub date-back : (d : DateTime) → isDate d ≡ true → readDate (dateText d) ≡ some d
+unfolding dateText
 date-back d h =
     let m = date-month d h in
-    let k : ℕ = d .month - 1 in
-    let i : numberIn 1 monthNames (named k) ≡ d .month = month-number k (omega (arith, m .0, m .1)) ∙ next in
-    ap readDate (spelled-is d h)
-    ∙ date-at (d .year) (d .month) (d .day) (d .hour) (d .minute) (d .offset) (getD letters (3 * k) 0) (getD letters (3 * k + 1) 0) (getD letters (3 * k + 2) 0) i (d .second) (month-first k (omega (arith, m .0, m .1))) (bounds d h)
+    let n = nameOf (d .month) in
+    let e : n ≡ getD n 0 0 ∷ getD n 1 0 ∷ getD n 2 0 ∷ [] = three-letters n (month-length (d .month) (m .0) (m .1)) in
+    let i : numberIn 1 monthNames (getD n 0 0 ∷ getD n 1 0 ∷ getD n 2 0 ∷ []) ≡ d .month = ap (numberIn 1 monthNames) (sym e) ∙ month-number (d .month) (m .0) (m .1) in
+    ap (λ (x : List ℕ). readDate (two (d .day) ++ (32 ∷ []) ++ x ++ (32 ∷ two (d .year)) ++ (32 ∷ two (d .hour)) ++ (58 ∷ two (d .minute)) ++ dateSecondText (d .second) ++ (32 ∷ []) ++ zoneText (d .offset))) e
+    ∙ date-at (d .year) (d .month) (d .day) (d .hour) (d .minute) (d .offset) (getD n 0 0) (getD n 1 0) (getD n 2 0) i (d .second) (month-first (d .month) (m .0) (m .1)) (bounds d h)
     ∙ kept-is d h
-  where
-    next : suc (d .month - 1) ≡ d .month
-    next = let m = date-month d h in omega (arith, m .0)
 
 -- ---- out and back
 

@@ -15,7 +15,6 @@ use mir.Syntax.{w32}
 use mir.Val.{SFits, hbits, ofZ, toZ}
 use mir.ValLaws.{toZ-ofZ, toZ-pos}
 use borrow.Author.Tests.{eq-eqb, le-leb, leb-true, lt-leb, ne-eqb}
-use Rattle.chars.specs.Case.{sameText}
 use Rattle.chars.specs.Class.{between, isDigit}
 use Rattle.chars.proofs.Laws.Lists.{and-left, and-right, or-left, or-right, true-not-false}
 use Rattle.dates.specs.Read.{dateNames, kept, monthNames, numberIn, offsetOf, oneDigit, readBody, readRest, readUtc, restDate, restEnd, restWith, signed, spacedAt, twoDigits, utcDate, utcEnd, utcNames, utcWith, zoneOf}
@@ -28,43 +27,6 @@ use Rattle.dates.specs.declared.date.Second.the-variants.{At, Absent}
 pub digit-low : (b : ℕ) → isDigit b ≡ true → 48 ≤ b
 unfolding isDigit between
 digit-low b e = leb-true 48 b (and-left (leb 48 b) (leb b 57) e)
-
--- ---- names
-
-pub named : (k : ℕ) (n : List ℕ) (ns : List (List ℕ)) (s : List ℕ) → sameText n s ≡ true → k ≡ numberIn k (n ∷ ns) s
-unfolding numberIn
-named k n ns s e = rw e
-
-pub unnamed : (k r : ℕ) (n : List ℕ) (ns : List (List ℕ)) (s : List ℕ) → sameText n s ≡ false → r ≡ numberIn (suc k) ns s → r ≡ numberIn k (n ∷ ns) s
-unfolding numberIn
-unnamed k r n ns s e h = rw e h
-
-pub no-name : (k : ℕ) (s : List ℕ) → 0 ≡ numberIn k [] s
-unfolding numberIn
-no-name k s = refl
-
-first-step : (t : Bool) (k x y : ℕ) → ((x ≡ 0 → ⊥) → x ≡ y) → (cond t k x ≡ 0 → ⊥) → cond t k x ≡ cond t k y
-first-step true k x y f h = refl
-first-step false k x y f h = f h
-
--- a name of the first list is the first of both lists
-pub in-first : (k : ℕ) (a b : List (List ℕ)) (s : List ℕ) → (numberIn k a s ≡ 0 → ⊥) → numberIn k a s ≡ numberIn k (a ++ b) s
-unfolding numberIn
-in-first k [] b s h = absurd (h refl)
-in-first k (n ∷ a) b s h =
-    first-step (sameText n s) k (numberIn (suc k) a s) (numberIn (suc k) (a ++ b) s) (in-first (suc k) a b s) h
-
-second-step : (t : Bool) (k x y z : ℕ) → (x ≡ 0 → z ≡ y) → cond t (suc k) x ≡ 0 → z ≡ cond t (suc k) y
-second-step true k x y z f h = absurd (omega arith)
-second-step false k x y z f h = f h
-
--- a text that is no name of the first list has its number by the second
-pub in-second : (k j : ℕ) (a b : List (List ℕ)) (s : List ℕ) → j ≡ k + length a → numberIn (suc k) a s ≡ 0 → numberIn (suc j) b s ≡ numberIn (suc k) (a ++ b) s
-unfolding numberIn
-in-second k j [] b s e h = ap (λ (i : ℕ). numberIn (suc i) b s) (omega arith)
-in-second k j (n ∷ a) b s e h =
-    second-step (sameText n s) k (numberIn (suc (suc k)) a s) (numberIn (suc (suc k)) (a ++ b) s) (numberIn (suc j) b s)
-    (in-second (suc k) j a b s (omega arith)) h
 
 -- ---- offsets fit their type
 

@@ -1,180 +1,24 @@
 -- `dates::read::day_number` meets its contract.
 -- Assumes nothing.
-use mathlib.Core.Path.{_∙_, sym}
+use mathlib.Core.Path.{ap, _∙_}
+use mathlib.Core.List.{List}
+use Prim.Native.Nat.{ℕ}
 use Rattle.chars.specs.Lists.{bytes}
-use Rattle.dates.proofs.Laws.Read.{named, unnamed, no-name}
+use Rattle.dates.specs.Read.{numberIn}
+use Rattle.dates.proofs.Laws.Names.{days-spelled}
 use borrow.Author.Needs.{needs}
 use Rattle.dates.proofs.read.day_number.Statement.{statement}
 use Rattle.dates.proofs.read.day_number.Tie as tie
 
-slice-aggregate-same-text : tie.Need-slice-aggregate-same-text
-slice-aggregate-same-text c = search needs
+slice-aggregate-number-in : tie.Need-slice-aggregate-number-in
+slice-aggregate-number-in c = search needs
 
-same-text-requires : tie.Need-same-text-requires
-same-text-requires c κs = search needs
+number-in-requires : tie.Need-number-in-requires
+number-in-requires c κs = search needs
 
 returns : tie.Need-returns
 unfolding bytes
-returns c =
-    let s = c .before .before .before .before .args .s .now in
-    named 1 _ _ s (sym (c .before .same-text .ensures) ∙ c .if1 .taken)
-
-slice-aggregate-same-text-2 : tie.Need-slice-aggregate-same-text-2
-slice-aggregate-same-text-2 c = search needs
-
-same-text-requires-2 : tie.Need-same-text-requires-2
-same-text-requires-2 c κs = search needs
-
-returns-2 : tie.Need-returns-2
-unfolding bytes
-returns-2 c =
-    let at1 = c .before .before .before in
-    let s = at1 .before .before .before .before .args .s .now in
-    unnamed 1 2 _ _ s (sym (at1 .before .same-text .ensures) ∙ at1 .if1 .left)
-    (named 2 _ _ s (sym (c .before .same-text2 .ensures) ∙ c .if2 .taken))
-
-slice-aggregate-same-text-3 : tie.Need-slice-aggregate-same-text-3
-slice-aggregate-same-text-3 c = search needs
-
-same-text-requires-3 : tie.Need-same-text-requires-3
-same-text-requires-3 c κs = search needs
-
-returns-3 : tie.Need-returns-3
-unfolding bytes
-returns-3 c =
-    let at2 = c .before .before .before in
-    let at1 = at2 .before .before .before in
-    let s = at1 .before .before .before .before .args .s .now in
-    unnamed 1 3 _ _ s (sym (at1 .before .same-text .ensures) ∙ at1 .if1 .left)
-    (unnamed 2 3 _ _ s (sym (at2 .before .same-text2 .ensures) ∙ at2 .if2 .left)
-    (named 3 _ _ s (sym (c .before .same-text3 .ensures) ∙ c .if3 .taken)))
-
-slice-aggregate-same-text-4 : tie.Need-slice-aggregate-same-text-4
-slice-aggregate-same-text-4 c = search needs
-
-same-text-requires-4 : tie.Need-same-text-requires-4
-same-text-requires-4 c κs = search needs
-
-returns-4 : tie.Need-returns-4
-unfolding bytes
-returns-4 c =
-    let at3 = c .before .before .before in
-    let at2 = at3 .before .before .before in
-    let at1 = at2 .before .before .before in
-    let s = at1 .before .before .before .before .args .s .now in
-    unnamed 1 4 _ _ s (sym (at1 .before .same-text .ensures) ∙ at1 .if1 .left)
-    (unnamed 2 4 _ _ s (sym (at2 .before .same-text2 .ensures) ∙ at2 .if2 .left)
-    (unnamed 3 4 _ _ s (sym (at3 .before .same-text3 .ensures) ∙ at3 .if3 .left)
-    (named 4 _ _ s (sym (c .before .same-text4 .ensures) ∙ c .if4 .taken))))
-
-slice-aggregate-same-text-5 : tie.Need-slice-aggregate-same-text-5
-slice-aggregate-same-text-5 c = search needs
-
-same-text-requires-5 : tie.Need-same-text-requires-5
-same-text-requires-5 c κs = search needs
-
-returns-5 : tie.Need-returns-5
-unfolding bytes
-returns-5 c =
-    let at4 = c .before .before .before in
-    let at3 = at4 .before .before .before in
-    let at2 = at3 .before .before .before in
-    let at1 = at2 .before .before .before in
-    let s = at1 .before .before .before .before .args .s .now in
-    unnamed 1 5 _ _ s (sym (at1 .before .same-text .ensures) ∙ at1 .if1 .left)
-    (unnamed 2 5 _ _ s (sym (at2 .before .same-text2 .ensures) ∙ at2 .if2 .left)
-    (unnamed 3 5 _ _ s (sym (at3 .before .same-text3 .ensures) ∙ at3 .if3 .left)
-    (unnamed 4 5 _ _ s (sym (at4 .before .same-text4 .ensures) ∙ at4 .if4 .left)
-    (named 5 _ _ s (sym (c .before .same-text5 .ensures) ∙ c .if5 .taken)))))
-
-slice-aggregate-same-text-6 : tie.Need-slice-aggregate-same-text-6
-slice-aggregate-same-text-6 c = search needs
-
-same-text-requires-6 : tie.Need-same-text-requires-6
-same-text-requires-6 c κs = search needs
-
-returns-6 : tie.Need-returns-6
-unfolding bytes
-returns-6 c =
-    let at5 = c .before .before .before in
-    let at4 = at5 .before .before .before in
-    let at3 = at4 .before .before .before in
-    let at2 = at3 .before .before .before in
-    let at1 = at2 .before .before .before in
-    let s = at1 .before .before .before .before .args .s .now in
-    unnamed 1 6 _ _ s (sym (at1 .before .same-text .ensures) ∙ at1 .if1 .left)
-    (unnamed 2 6 _ _ s (sym (at2 .before .same-text2 .ensures) ∙ at2 .if2 .left)
-    (unnamed 3 6 _ _ s (sym (at3 .before .same-text3 .ensures) ∙ at3 .if3 .left)
-    (unnamed 4 6 _ _ s (sym (at4 .before .same-text4 .ensures) ∙ at4 .if4 .left)
-    (unnamed 5 6 _ _ s (sym (at5 .before .same-text5 .ensures) ∙ at5 .if5 .left)
-    (named 6 _ _ s (sym (c .before .same-text6 .ensures) ∙ c .if6 .taken))))))
-
-slice-aggregate-same-text-7 : tie.Need-slice-aggregate-same-text-7
-slice-aggregate-same-text-7 c = search needs
-
-same-text-requires-7 : tie.Need-same-text-requires-7
-same-text-requires-7 c κs = search needs
-
-returns-7 : tie.Need-returns-7
-unfolding bytes
-returns-7 c =
-    let at6 = c .before .before .before in
-    let at5 = at6 .before .before .before in
-    let at4 = at5 .before .before .before in
-    let at3 = at4 .before .before .before in
-    let at2 = at3 .before .before .before in
-    let at1 = at2 .before .before .before in
-    let s = at1 .before .before .before .before .args .s .now in
-    unnamed 1 7 _ _ s (sym (at1 .before .same-text .ensures) ∙ at1 .if1 .left)
-    (unnamed 2 7 _ _ s (sym (at2 .before .same-text2 .ensures) ∙ at2 .if2 .left)
-    (unnamed 3 7 _ _ s (sym (at3 .before .same-text3 .ensures) ∙ at3 .if3 .left)
-    (unnamed 4 7 _ _ s (sym (at4 .before .same-text4 .ensures) ∙ at4 .if4 .left)
-    (unnamed 5 7 _ _ s (sym (at5 .before .same-text5 .ensures) ∙ at5 .if5 .left)
-    (unnamed 6 7 _ _ s (sym (at6 .before .same-text6 .ensures) ∙ at6 .if6 .left)
-    (named 7 _ _ s (sym (c .before .same-text7 .ensures) ∙ c .if7 .taken)))))))
-
-returns-8 : tie.Need-returns-8
-unfolding bytes
-returns-8 c =
-    let at6 = c .before .before .before in
-    let at5 = at6 .before .before .before in
-    let at4 = at5 .before .before .before in
-    let at3 = at4 .before .before .before in
-    let at2 = at3 .before .before .before in
-    let at1 = at2 .before .before .before in
-    let s = at1 .before .before .before .before .args .s .now in
-    unnamed 1 0 _ _ s (sym (at1 .before .same-text .ensures) ∙ at1 .if1 .left)
-    (unnamed 2 0 _ _ s (sym (at2 .before .same-text2 .ensures) ∙ at2 .if2 .left)
-    (unnamed 3 0 _ _ s (sym (at3 .before .same-text3 .ensures) ∙ at3 .if3 .left)
-    (unnamed 4 0 _ _ s (sym (at4 .before .same-text4 .ensures) ∙ at4 .if4 .left)
-    (unnamed 5 0 _ _ s (sym (at5 .before .same-text5 .ensures) ∙ at5 .if5 .left)
-    (unnamed 6 0 _ _ s (sym (at6 .before .same-text6 .ensures) ∙ at6 .if6 .left)
-    (unnamed 7 0 _ _ s (sym (c .before .same-text7 .ensures) ∙ c .if7 .left)
-    (no-name 8 s)))))))
+returns c = c .number-in .ensures ∙ ap (λ (ns : List (List ℕ)). numberIn 1 ns (c .before .before .before .args .s .now)) days-spelled
 
 pub day-number-spec : {M : Type 1} → statement M
-day-number-spec =
-    tie.close
-    (tie.spec
-    slice-aggregate-same-text
-    same-text-requires
-    returns
-    slice-aggregate-same-text-2
-    same-text-requires-2
-    returns-2
-    slice-aggregate-same-text-3
-    same-text-requires-3
-    returns-3
-    slice-aggregate-same-text-4
-    same-text-requires-4
-    returns-4
-    slice-aggregate-same-text-5
-    same-text-requires-5
-    returns-5
-    slice-aggregate-same-text-6
-    same-text-requires-6
-    returns-6
-    slice-aggregate-same-text-7
-    same-text-requires-7
-    returns-7
-    returns-8)
+day-number-spec = tie.close (tie.spec slice-aggregate-number-in number-in-requires returns)

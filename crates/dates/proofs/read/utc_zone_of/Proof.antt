@@ -2,7 +2,8 @@
 -- Assumes nothing.
 use mathlib.Core.Path.{_∙_, sym}
 use Rattle.chars.specs.Lists.{bytes}
-use Rattle.dates.proofs.Laws.Read.{named, unnamed, no-name, zone-named, zone-unnamed}
+use Rattle.dates.proofs.Laws.Names.{named, no-name, unnamed}
+use Rattle.dates.proofs.Laws.Read.{zone-named, zone-unnamed}
 use Rattle.dates.specs.Read.{utcNames}
 use borrow.Author.Needs.{needs}
 use Rattle.dates.proofs.read.utc_zone_of.Statement.{statement}

@@ -1,0 +1,14 @@
+-- `dates::read::month_letters` meets its contract.
+-- Assumes nothing.
+use mathlib.Core.Path.{refl}
+use Rattle.chars.specs.Lists.{bytes}
+use Rattle.dates.specs.Read.{monthLetters}
+use Rattle.dates.proofs.read.month_letters.Statement.{statement}
+use Rattle.dates.proofs.read.month_letters.Tie as tie
+
+returns : tie.Need-returns
+unfolding monthLetters bytes
+returns c = refl
+
+pub month-letters-spec : {M : Type 1} → statement M
+month-letters-spec = tie.close (tie.spec returns)
