@@ -6,10 +6,10 @@ use Prim.Native.Nat.{ℕ, _+_, _-_, _/_, _%_}
 use lib.IntN.{ℤ, natAbs}
 use lib.ListN.{getD}
 use lib.Signed.{nonNeg}
-use Rattle.dates.specs.Read.{monthNames}
-use Rattle.dates.specs.declared.date.DateTime.{DateTime}
-use Rattle.dates.specs.declared.date.Second.{Second}
-use Rattle.dates.specs.declared.date.Second.the-variants.{At, Absent}
+use Rattle.date_read.specs.Read.{monthNames}
+use Rattle.date_read.specs.declared.date.DateTime.{DateTime}
+use Rattle.date_read.specs.declared.date.Second.{Second}
+use Rattle.date_read.specs.declared.date.Second.the-variants.{At, Absent}
 
 -- the last two digits of a number: all of it, in a date
 unfoldable pub two : ℕ → List ℕ

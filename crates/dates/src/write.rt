@@ -1,9 +1,9 @@
 // Dates, written.
-use crate::date::DateTime;
-use crate::date::Second;
-use crate::read::month_letters;
-use crate::read::three;
 use chars::write::put;
+use date_read::date::DateTime;
+use date_read::date::Second;
+use date_read::read::month_letters;
+use date_read::read::three;
 ghost use mathlib.Core.Path.{_≡_};
 ghost use mathlib.Core.Bool.{cond, true};
 ghost use mathlib.Core.List.{[], _∷_, _++_};
@@ -12,8 +12,8 @@ ghost use lib.IntN.{natAbs};
 ghost use lib.ListN.{getD, length};
 ghost use lib.Signed.{nonNeg};
 ghost use Rattle.chars.specs.Write.{Wrote};
-ghost use Rattle.dates.specs.Date.{isDate, mostOffset};
-ghost use Rattle.dates.specs.Read.{monthNames};
+ghost use Rattle.date_read.specs.Date.{isDate, mostOffset};
+ghost use Rattle.date_read.specs.Read.{monthNames};
 ghost use Rattle.dates.specs.Write.{dateSecondText, dateText, two, utcSecondText, utcText, zoneText};
 
 // Room for a date in either form.

@@ -9,12 +9,11 @@ use native.Mathlib.Omega.{arith}
 use lib.Dec.{eqb}
 use lib.ListN.{length, take, drop, getD, length-append}
 use Rattle.chars.proofs.Laws.Lists.{by-test}
-use Rattle.dates.specs.Date.{isDate}
-use Rattle.dates.specs.Read.{dayNames, kept, monthNames, numberIn, oneDigit, readBody, readDate, readRest, readUtc, restDate, restEnd, spacedAt, twoDigits, utcDate}
+use Rattle.date_read.specs.Date.{isDate}
+use Rattle.date_read.specs.Read.{dayNames, kept, monthNames, numberIn, oneDigit, readBody, readDate, readRest, readUtc, restDate, restEnd, spacedAt, twoDigits, utcDate}
 use Rattle.dates.specs.Write.{dateSecondText, dateText, two, utcSecondText, utcText, zoneText}
-use Rattle.dates.specs.declared.date.DateTime.{DateTime}
-use Rattle.dates.proofs.Laws.Month.{date-day-length}
-use Rattle.dates.proofs.Laws.Written.{behind-length, date-second-length, two-length, utc-day-length, utc-second-length, zone-length}
+use Rattle.date_read.specs.declared.date.DateTime.{DateTime}
+use Rattle.dates.proofs.Laws.Written.{behind-length, date-day-length, date-second-length, two-length, utc-day-length, utc-second-length, zone-length}
 
 -- ---- what is read is a date
 

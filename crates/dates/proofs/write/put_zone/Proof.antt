@@ -8,7 +8,7 @@ use native.Mathlib.Omega.{arith}
 use lib.IntN.{ℤ, natAbs}
 use lib.Signed.{nonNeg}
 use Rattle.chars.proofs.Laws.Write.{wrote-length, wrote-then}
-use Rattle.dates.specs.Date.{mostOffset}
+use Rattle.date_read.specs.Date.{mostOffset}
 use Rattle.dates.specs.Write.{two, zoneText}
 use Rattle.dates.proofs.Laws.Offset.{plain, quot-abs, quot-fits, quot-plain, quot-small, rem-abs, rem-plain, rem-small}
 use Rattle.dates.proofs.Laws.Written.{two-length, wrote-as}
