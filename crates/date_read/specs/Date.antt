@@ -10,6 +10,10 @@ use Rattle.date_read.specs.declared.date.DateTime.{DateTime}
 use Rattle.date_read.specs.declared.date.Second.{Second}
 use Rattle.date_read.specs.declared.date.Second.the-variants.{At, Absent}
 
+-- the months are numbered from 1 to this
+abbrev pub lastMonth : ℕ
+lastMonth = 12
+
 -- the days of each month in a year that is no leap year, by the month's number; of no month, none
 abbrev pub monthDays : List ℕ
 monthDays = 0 ∷ 31 ∷ 28 ∷ 31 ∷ 30 ∷ 31 ∷ 30 ∷ 31 ∷ 31 ∷ 30 ∷ 31 ∷ 30 ∷ 31 ∷ []

@@ -21,6 +21,21 @@ pub struct DateTime {
     pub offset: i32,
 }
 
+// The greatest that each number of a date can be, and the least offset.
+const LAST_YEAR: usize = 99;
+
+const LAST_MONTH: usize = 12;
+
+pub const LAST_HOUR: usize = 23;
+
+pub const LAST_MINUTE: usize = 59;
+
+const LAST_SECOND: usize = 59;
+
+const LEAST_OFFSET: i32 = -1439;
+
+const MOST_OFFSET: i32 = 1439;
+
 // The days of each month in a year that is no leap year; there is no month 0.
 const MONTH_DAYS: [usize; 13] = [0, 31, 28, 31, 30, 31, 30, 31, 31, 30, 31, 30, 31];
 
@@ -35,7 +50,7 @@ fn february(year: usize) -> usize
 fn days_in(year: usize, month: usize) -> usize
     ensures { λ r. ⌜ r ≡ daysIn year month ⌝ }
 {
-    if 12 < month {
+    if LAST_MONTH < month {
         return 0;
     }
     if month == 2 {
@@ -48,7 +63,7 @@ fn is_second(second: Second) -> bool
     ensures { λ r. ⌜ r ≡ isSecond second ⌝ }
 {
     match second {
-        Second::At(n) => n <= 59,
+        Second::At(n) => n <= LAST_SECOND,
         Second::Absent => true,
     }
 }
@@ -57,20 +72,20 @@ fn is_second(second: Second) -> bool
 fn is_offset(offset: i32) -> bool
     ensures { λ r. ⌜ r ≡ leb (natAbs offset) mostOffset ⌝ }
 {
-    if offset < -1439 {
+    if offset < LEAST_OFFSET {
         return false;
     }
-    offset <= 1439
+    offset <= MOST_OFFSET
 }
 
 // Whether there is such a time of day.
 fn is_time(hour: usize, minute: usize, second: Second) -> bool
     ensures { λ r. ⌜ r ≡ isTime hour minute second ⌝ }
 {
-    if 23 < hour {
+    if LAST_HOUR < hour {
         return false;
     }
-    if 59 < minute {
+    if LAST_MINUTE < minute {
         return false;
     }
     is_second(second)
@@ -80,7 +95,7 @@ fn is_time(hour: usize, minute: usize, second: Second) -> bool
 fn is_day(year: usize, month: usize, day: usize) -> bool
     ensures { λ r. ⌜ r ≡ isDay year month day ⌝ }
 {
-    if 99 < year {
+    if LAST_YEAR < year {
         return false;
     }
     if day < 1 {

@@ -1,6 +1,8 @@
 // Dates, read. A number that is not there counts as 100, an offset as 1,440 minutes, and a month as 0: no date has any of them, so that
 // one test of the whole decides.
 use crate::date::DateTime;
+use crate::date::LAST_HOUR;
+use crate::date::LAST_MINUTE;
 use crate::date::Second;
 use crate::date::is_date;
 use chars::case::same_text;
@@ -124,10 +126,10 @@ fn offset_of(s: &[u8]) -> i32
     }
     let hours = two_digits(s, 1);
     let minutes = two_digits(s, 3);
-    if 23 < hours {
+    if LAST_HOUR < hours {
         return NO_OFFSET;
     }
-    if 59 < minutes {
+    if LAST_MINUTE < minutes {
         return NO_OFFSET;
     }
     signed_minutes(sign == b'-', hours * 60 + minutes)

@@ -10,10 +10,10 @@ use lib.ListN.{getD, List·getD-eq-default}
 use lib.Signed.{leZ, ltZ}
 use borrow.Author.Tests.{le-leb, lt-leb, ltb-false, ltb-true, ne-eqb}
 use Rattle.chars.proofs.Laws.Lists.{true-not-false}
-use Rattle.date_read.specs.Date.{daysIn, monthDays, mostOffset}
+use Rattle.date_read.specs.Date.{daysIn, lastMonth, monthDays, mostOffset}
 
 -- a month that there is not
-pub no-month : (y m : ℕ) → 12 < m → 0 ≡ daysIn y m
+pub no-month : (y m : ℕ) → lastMonth < m → 0 ≡ daysIn y m
 unfolding daysIn
 no-month y m h = rw (ne-eqb m 2 (λ e. omega arith)) (sym (List·getD-eq-default monthDays 0 h))
 

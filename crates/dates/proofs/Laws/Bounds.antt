@@ -10,22 +10,22 @@ use lib.IntN.{natAbs}
 use lib.ListN.{getD, List·getD-eq-default}
 use Rattle.chars.proofs.Laws.Class.{on-range}
 use Rattle.chars.proofs.Laws.Lists.{and-three, by-test}
-use Rattle.date_read.specs.Date.{daysIn, isDate, isDay, isSecond, isTime, monthDays, mostOffset}
+use Rattle.date_read.specs.Date.{daysIn, isDate, isDay, isSecond, isTime, lastMonth, monthDays, mostOffset}
 use Rattle.date_read.specs.declared.date.DateTime.{DateTime}
 
 -- a month that has days is one of twelve
-months : (y m : ℕ) → 1 ≤ daysIn y m → (1 ≤ m) × (m ≤ 12)
+months : (y m : ℕ) → 1 ≤ daysIn y m → (1 ≤ m) × (m ≤ lastMonth)
 unfolding daysIn
 months y m h =
     by-test (eqb m 2)
     (λ e. let z : m ≡ 2 = eqb-true m 2 e in (omega arith, omega arith))
     (λ e.
     let k : 1 ≤ getD monthDays m 0 = rw e at h in
-    by-test (ltb 12 m)
-    (λ g. let z : getD monthDays m 0 ≡ 0 = List·getD-eq-default monthDays 0 (ltb-true 12 m g) in absurd (omega arith))
+    by-test (ltb lastMonth m)
+    (λ g. let z : getD monthDays m 0 ≡ 0 = List·getD-eq-default monthDays 0 (ltb-true lastMonth m g) in absurd (omega arith))
     (λ g.
     by-test (ltb 0 m)
-    (λ f. (ltb-true 0 m f, ltb-false 12 m g))
+    (λ f. (ltb-true 0 m f, ltb-false lastMonth m g))
     (λ f. let z : m ≡ 0 = omega (arith, ltb-false 0 m f) in let w : 1 ≤ 0 = rw z at k in absurd (omega arith))))
 
 month-most : (m : ℕ) → getD monthDays m 0 ≤ 31
@@ -44,7 +44,7 @@ days-most y m =
 -- A date's numbers, each within its bounds.
 pub record Bounds (d : DateTime) : Type 0 where
   pub year : d .year ≤ 99
-  pub month : (1 ≤ d .month) × (d .month ≤ 12)
+  pub month : (1 ≤ d .month) × (d .month ≤ lastMonth)
   pub day : d .day ≤ 99
   pub hour : d .hour ≤ 99
   pub minute : d .minute ≤ 99

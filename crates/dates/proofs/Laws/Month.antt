@@ -12,6 +12,7 @@ use Rattle.chars.specs.Case.{agree, foldCase, sameByte, sameText}
 use Rattle.chars.specs.Lists.{bytes}
 use Rattle.chars.proofs.Laws.Class.{on-range}
 use Rattle.chars.proofs.Laws.Lists.{and-three}
+use Rattle.date_read.specs.Date.{lastMonth}
 use Rattle.date_read.specs.Read.{monthLetters, monthNames, numberIn}
 use Rattle.date_read.proofs.Laws.Names.{months-spelled, name-at}
 
@@ -23,10 +24,10 @@ fine : ℕ → Bool
 unfolding numberIn sameText agree sameByte foldCase bytes
 fine k = eqb (length (getD monthNames k [])) 3 && eqb (numberIn 1 monthNames (getD monthNames k [])) (suc k) && not (eqb (getD (getD monthNames k []) 0 0) 44)
 
-module _ (m : ℕ) (h : 1 ≤ m) (k : m ≤ 12) where
+module _ (m : ℕ) (h : 1 ≤ m) (k : m ≤ lastMonth) where
   all-fine : fine (m - 1) ≡ true
   unfolding fine numberIn sameText agree sameByte foldCase bytes
-  all-fine = on-range fine (λ _. true) 0 12 tt (m - 1) zero-le (omega arith)
+  all-fine = on-range fine (λ _. true) 0 lastMonth tt (m - 1) zero-le (omega arith)
 
   pub month-length : length (nameOf m) ≡ 3
   unfolding fine
