@@ -1,6 +1,7 @@
 // One case: a text in one form to the other.
 use crate::print::print_buffer;
 use crate::print::print_text;
+use dates::convert::DateWritten;
 use dates::convert::date_to_utc;
 use dates::convert::utc_to_date;
 ghost use Prim.Native.Nat.{_≤_};
@@ -11,62 +12,40 @@ const ROOM: usize = 25;
 
 const FILLED: u8 = b'.';
 
-// A UTCTime to a date-time.
-fn run_utc(s: &[u8]) {
-    let mut out = [FILLED; ROOM];
-    let done = utc_to_date(s, &mut out);
-    print_text(done, &out);
-}
-
-// A date-time to a UTCTime.
-fn run_date(s: &[u8]) {
-    let mut out = [FILLED; ROOM];
-    let done = date_to_utc(s, &mut out);
-    print_text(done, &out);
-}
-
-// A UTCTime to a date-time, in a buffer.
-fn utc_into(s: &[u8], out: &mut [u8]) {
-    let done = utc_to_date(s, out);
-    print_buffer(done, out);
-}
-
-// A date-time to a UTCTime, in a buffer.
-fn date_into(s: &[u8], out: &mut [u8]) {
-    let done = date_to_utc(s, out);
-    print_buffer(done, out);
-}
-
-// A UTCTime to a date-time, in a buffer of n bytes.
-fn utc_in(s: &[u8], n: usize)
-    requires { ⌜ n ≤ 25 ⌝ }
-{
-    let mut out = [FILLED; ROOM];
-    utc_into(s, &mut out[..n]);
-}
-
-// A date-time to a UTCTime, in a buffer of n bytes.
-fn date_in(s: &[u8], n: usize)
-    requires { ⌜ n ≤ 25 ⌝ }
-{
-    let mut out = [FILLED; ROOM];
-    date_into(s, &mut out[..n]);
-}
-
-// A UTCTime to a date-time, in a buffer of each length.
-fn run_utc_rooms(s: &[u8]) {
-    let mut n = 0;
-    while n <= ROOM {
-        utc_in(s, n);
-        n += 1;
+// A UTCTime to a date-time, or a date-time to a UTCTime.
+fn convert(from_utc: bool, s: &[u8], out: &mut [u8]) -> DateWritten {
+    if from_utc {
+        return utc_to_date(s, out);
     }
+    date_to_utc(s, out)
 }
 
-// A date-time to a UTCTime, in a buffer of each length.
-fn run_date_rooms(s: &[u8]) {
+// The same, and what came of it printed.
+fn run_text(from_utc: bool, s: &[u8]) {
+    let mut out = [FILLED; ROOM];
+    let done = convert(from_utc, s, &mut out);
+    print_text(done, &out);
+}
+
+// The same in a lent buffer.
+fn run_into(from_utc: bool, s: &[u8], out: &mut [u8]) {
+    let done = convert(from_utc, s, out);
+    print_buffer(done, out);
+}
+
+// The same in a buffer of n bytes.
+fn run_in(from_utc: bool, s: &[u8], n: usize)
+    requires { ⌜ n ≤ 25 ⌝ }
+{
+    let mut out = [FILLED; ROOM];
+    run_into(from_utc, s, &mut out[..n]);
+}
+
+// The same in a buffer of each length.
+fn run_rooms(from_utc: bool, s: &[u8]) {
     let mut n = 0;
     while n <= ROOM {
-        date_in(s, n);
+        run_in(from_utc, s, n);
         n += 1;
     }
 }
@@ -76,10 +55,10 @@ fn run_case(line: &[u8])
 {
     let text = &line[2..];
     match line[0] {
-        b'U' => run_utc(text),
-        b'R' => run_date(text),
-        b'u' => run_utc_rooms(text),
-        _ => run_date_rooms(text),
+        b'U' => run_text(true, text),
+        b'R' => run_text(false, text),
+        b'u' => run_rooms(true, text),
+        _ => run_rooms(false, text),
     }
 }
 

@@ -3,6 +3,7 @@ use cases::print::say;
 use cases::print::say_number;
 use dates::convert::DateAnswer;
 use dates::convert::DateWritten;
+use dates::convert::date_number;
 ghost use mathlib.Core.Path.{_≡_};
 ghost use lib.ListN.{take};
 
@@ -18,11 +19,8 @@ fn front(out: &[u8], n: usize) -> &[u8]
 
 // The number of an answer, and a tab.
 fn print_answer(answer: DateAnswer) {
-    match answer {
-        DateAnswer::Done => say(b"0\t"),
-        DateAnswer::NoDate => say(b"10\t"),
-        DateAnswer::ShortBuffer => say(b"6\t"),
-    }
+    say_number(date_number(answer));
+    say(b"\t");
 }
 
 // The number, and the text: with a refusal its length is 0.

@@ -1,7 +1,6 @@
 pub mod Back
+pub mod Bounds
 pub mod Convert
-pub mod Date
 pub mod Month
 pub mod Offset
-pub mod Read
 pub mod Written

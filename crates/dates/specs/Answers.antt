@@ -1,24 +1,16 @@
 -- What the answers of the code stand for.
 -- Assumes nothing.
-use mathlib.Core.Option.{Option, none, some}
 use mathlib.Core.List.{List}
 use Prim.Native.Nat.{ℕ}
 use Rattle.chars.specs.Write.{TextResult}
 use Rattle.dates.specs.declared.convert.DateAnswer.{DateAnswer}
-use Rattle.dates.specs.declared.convert.DateAnswer.the-variants.{Done, NoDate as NoDateAnswer, ShortBuffer}
+use Rattle.dates.specs.declared.convert.DateAnswer.the-variants.{Done, NoDate, ShortBuffer}
 use Rattle.dates.specs.declared.convert.DateWritten.{DateWritten}
-use Rattle.dates.specs.declared.date.DateTime.{DateTime}
-use Rattle.dates.specs.declared.read.DateRead.{DateRead}
-use Rattle.dates.specs.declared.read.DateRead.the-variants.{Date, NoDate}
-
-abbrev pub reading : DateRead → Option DateTime
-reading (Date d) = some d
-reading NoDate = none
 
 -- request 6's number for each answer
 abbrev pub dateNumber : DateAnswer → ℕ
 dateNumber Done = 0
-dateNumber NoDateAnswer = 10
+dateNumber NoDate = 10
 dateNumber ShortBuffer = 6
 
 abbrev pub told : DateWritten → List ℕ → TextResult

@@ -4,9 +4,9 @@ use mathlib.Core.List.{List}
 use mathlib.Core.Option.{Option, none, some}
 use Prim.Native.Nat.{ℕ}
 use Rattle.chars.specs.Write.{TextResult, placedText, refusedText}
-use Rattle.dates.specs.Read.{readDate, readUtc}
+use Rattle.date_read.specs.Read.{readDate, readUtc}
 use Rattle.dates.specs.Write.{dateText, utcText}
-use Rattle.dates.specs.declared.date.DateTime.{DateTime}
+use Rattle.date_read.specs.declared.date.DateTime.{DateTime}
 
 unfoldable pub converted : (DateTime → List ℕ) → Option DateTime → List ℕ → TextResult
 unfolding refusedText placedText

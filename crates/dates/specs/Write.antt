@@ -6,19 +6,26 @@ use Prim.Native.Nat.{ℕ, _+_, _-_, _/_, _%_}
 use lib.IntN.{ℤ, natAbs}
 use lib.ListN.{getD}
 use lib.Signed.{nonNeg}
-use Rattle.dates.specs.Read.{monthNames}
-use Rattle.dates.specs.declared.date.DateTime.{DateTime}
-use Rattle.dates.specs.declared.date.Second.{Second}
-use Rattle.dates.specs.declared.date.Second.the-variants.{At, Absent}
+use Rattle.date_read.specs.Read.{monthNames}
+use Rattle.date_read.specs.declared.date.DateTime.{DateTime}
+use Rattle.date_read.specs.declared.date.Second.{Second}
+use Rattle.date_read.specs.declared.date.Second.the-variants.{At, Absent}
 
 -- the last two digits of a number: all of it, in a date
 unfoldable pub two : ℕ → List ℕ
 two n = (48 + n / 10 % 10) ∷ (48 + n % 10) ∷ []
 
+-- room for a date in either form
+abbrev pub dateRoom : ℕ
+dateRoom = 32
+
+abbrev pub signOf : ℤ → ℕ
+signOf z = cond (nonNeg z) 43 45
+
 -- "always written `+0000`"; "never normalised"
 unfoldable pub zoneText : ℤ → List ℕ
 unfolding two
-zoneText z = cond (nonNeg z) 43 45 ∷ two (natAbs z / 60) ++ two (natAbs z % 60)
+zoneText z = signOf z ∷ two (natAbs z / 60) ++ two (natAbs z % 60)
 
 -- "Seconds .. stay absent if absent"
 unfoldable pub utcSecondText : Second → List ℕ

@@ -1,19 +1,19 @@
 // The entry points: a date in one form to the other, in a lent buffer.
-use crate::date::DateTime;
-use crate::read::DateRead;
-use crate::read::read_date;
-use crate::read::read_utc;
 use crate::write::DATE_ROOM;
 use crate::write::write_date;
 use crate::write::write_utc;
 use chars::write::put;
+use date_read::date::DateTime;
+use date_read::read::DateRead;
+use date_read::read::read_date;
+use date_read::read::read_utc;
 ghost use mathlib.Core.Path.{_≡_};
 ghost use mathlib.Core.Bool.{true};
 ghost use Rattle.chars.specs.Write.{placedText};
 ghost use Rattle.dates.specs.Answers.{dateNumber, told};
 ghost use Rattle.dates.specs.Convert.{dateToUtc, utcToDate};
 ghost use Rattle.dates.specs.declared.convert.DateAnswer.the-variants.{NoDate};
-ghost use Rattle.dates.specs.Date.{isDate};
+ghost use Rattle.date_read.specs.Date.{isDate};
 ghost use Rattle.dates.specs.Write.{dateText, utcText};
 
 // Request 6's answers: 0, 10 and 6.

@@ -1,24 +1,22 @@
 // Dates, written.
-use crate::date::DateTime;
-use crate::date::Second;
 use chars::write::put;
+use date_read::date::DateTime;
+use date_read::date::Second;
+use date_read::read::month_letters;
+use date_read::read::three;
 ghost use mathlib.Core.Path.{_≡_};
-ghost use mathlib.Core.Bool.{cond, true};
+ghost use mathlib.Core.Bool.{true};
 ghost use mathlib.Core.List.{[], _∷_, _++_};
 ghost use Prim.Native.Nat.{_+_, _-_, _<_, _≤_};
 ghost use lib.IntN.{natAbs};
 ghost use lib.ListN.{getD, length};
-ghost use lib.Signed.{nonNeg};
 ghost use Rattle.chars.specs.Write.{Wrote};
-ghost use Rattle.dates.specs.Date.{isDate, mostOffset};
-ghost use Rattle.dates.specs.Read.{monthNames};
-ghost use Rattle.dates.specs.Write.{dateSecondText, dateText, two, utcSecondText, utcText, zoneText};
+ghost use Rattle.date_read.specs.Date.{isDate, lastMonth, mostOffset};
+ghost use Rattle.date_read.specs.Read.{monthNames};
+ghost use Rattle.dates.specs.Write.{dateRoom, dateSecondText, dateText, signOf, two, utcSecondText, utcText, zoneText};
 
 // Room for a date in either form.
 pub const DATE_ROOM: usize = 32;
-
-// The months' names, one after the other.
-const MONTHS: [u8; 36] = *b"JanFebMarAprMayJunJulAugSepOctNovDec";
 
 // Writes the last two digits of a number.
 fn put_two(dst: &mut [u8], at: usize, n: usize) -> usize
@@ -67,24 +65,19 @@ fn put_zone(dst: &mut [u8], at: usize, offset: i32) -> usize
 }
 
 fn sign_of(offset: i32) -> u8
-    ensures { λ r. ⌜ r ≡ cond (nonNeg offset) 43 45 ⌝ }
+    ensures { λ r. ⌜ r ≡ signOf offset ⌝ }
 {
     if offset < 0 { b'-' } else { b'+' }
 }
 
 // Writes a month's name.
 fn put_month(dst: &mut [u8], at: usize, month: usize) -> usize
-    requires { ⌜ (1 ≤ month) × (month ≤ 12) ⌝ }
+    requires { ⌜ (1 ≤ month) × (month ≤ lastMonth) ⌝ }
     requires { ⌜ at + 3 ≤ length (now dst) ⌝ }
     ensures { λ r. ⌜ Wrote (now (dst .entry)) at (getD monthNames (month - 1) []) r (now (dst .exit)) ⌝ }
 {
-    let k = 3 * (month - 1);
-    dst[at] = MONTHS[k];
-    let second = at + 1;
-    dst[second] = MONTHS[k + 1];
-    let third = second + 1;
-    dst[third] = MONTHS[k + 2];
-    third + 1
+    let names = month_letters();
+    put(dst, at, three(&names, 3 * (month - 1)))
 }
 
 // Writes the seconds of a UTCTime.
@@ -120,7 +113,7 @@ fn put_date_second(dst: &mut [u8], at: usize, second: Second) -> usize
 
 // Writes the year, month and day of a UTCTime.
 fn put_utc_day(dst: &mut [u8], d: DateTime) -> usize
-    requires { ⌜ length (now dst) ≡ 32 ⌝ }
+    requires { ⌜ length (now dst) ≡ dateRoom ⌝ }
     ensures { λ r. ⌜ Wrote (now (dst .entry)) 0 (two (d .year) ++ two (d .month) ++ two (d .day)) r (now (dst .exit)) ⌝ }
 {
     let a = put_two(dst, 0, d.year);
@@ -131,7 +124,7 @@ fn put_utc_day(dst: &mut [u8], d: DateTime) -> usize
 // Writes a date as a UTCTime to the front of `dst`.
 pub fn write_utc(dst: &mut [u8], d: DateTime) -> usize
     requires { ⌜ isDate d ≡ true ⌝ }
-    requires { ⌜ length (now dst) ≡ 32 ⌝ }
+    requires { ⌜ length (now dst) ≡ dateRoom ⌝ }
     ensures { λ r. ⌜ Wrote (now (dst .entry)) 0 (utcText d) r (now (dst .exit)) ⌝ }
 {
     let a = put_utc_day(dst, d);
@@ -146,7 +139,7 @@ pub fn write_utc(dst: &mut [u8], d: DateTime) -> usize
 // Writes the day, month and year of a date-time.
 fn put_date_day(dst: &mut [u8], d: DateTime) -> usize
     requires { ⌜ isDate d ≡ true ⌝ }
-    requires { ⌜ length (now dst) ≡ 32 ⌝ }
+    requires { ⌜ length (now dst) ≡ dateRoom ⌝ }
     ensures { λ r. ⌜ Wrote (now (dst .entry)) 0 (two (d .day) ++ (32 ∷ []) ++ getD monthNames (d .month - 1) [] ++ (32 ∷ two (d .year))) r (now (dst .exit)) ⌝ }
 {
     let a = put_two(dst, 0, d.day);
@@ -158,7 +151,7 @@ fn put_date_day(dst: &mut [u8], d: DateTime) -> usize
 // Writes a date as a date-time to the front of `dst`.
 pub fn write_date(dst: &mut [u8], d: DateTime) -> usize
     requires { ⌜ isDate d ≡ true ⌝ }
-    requires { ⌜ length (now dst) ≡ 32 ⌝ }
+    requires { ⌜ length (now dst) ≡ dateRoom ⌝ }
     ensures { λ r. ⌜ Wrote (now (dst .entry)) 0 (dateText d) r (now (dst .exit)) ⌝ }
 {
     let a = put_date_day(dst, d);

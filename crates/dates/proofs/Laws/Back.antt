@@ -2,29 +2,30 @@
 -- and back does too.
 -- Assumes nothing.
 use mathlib.Core.Path.{_≡_, refl, sym, ap, _∙_}
-use mathlib.Core.Bool.{true, false, _&&_, cond}
+use mathlib.Core.Bool.{true, false, cond}
 use mathlib.Core.List.{List, [], _∷_, _++_}
 use mathlib.Core.Option.{some}
-use Prim.Native.Nat.{ℕ, zero, suc, _+_, _-_, _*_, _/_, _%_, _≤_, _<_}
+use Prim.Native.Nat.{ℕ, suc, _+_, _-_, _*_, _/_, _%_, _≤_}
 use native.Mathlib.Omega.{arith}
 use borrow.Author.Tests.{le-leb, leb-true, ne-eqb}
-use lib.Dec.{eqb, leb}
+use lib.Dec.{eqb}
 use lib.IntN.{ℤ, pos, negsuc, natAbs}
 use lib.ListN.{length, getD, take, drop}
 use lib.Signed.{nonNeg}
-use Rattle.chars.specs.Case.{agree, foldCase, sameByte, sameText}
+use Rattle.chars.specs.Case.{sameText}
 use Rattle.chars.specs.Class.{between, isDigit}
 use Rattle.chars.specs.Lists.{bytes}
 use Rattle.chars.proofs.Laws.Case.{same-length}
-use Rattle.chars.proofs.Laws.Lists.{and-both, and-left, and-right, by-test}
-use Rattle.dates.specs.Date.{daysIn, isDate, isDay, isSecond, isTime, monthDays, mostOffset}
-use Rattle.dates.specs.Read.{dateNames, kept, monthNames, numberIn, offsetOf, readBody, readDate, readRest, readUtc, restDate, restEnd, restWith, signed, spacedAt, twoDigits, utcDate, utcEnd, utcNames, utcWith, zoneOf}
+use Rattle.chars.proofs.Laws.Lists.{and-both, by-test}
+use Rattle.date_read.specs.Date.{isDate, isSecond, mostOffset}
+use Rattle.date_read.specs.Read.{dateNames, kept, monthNames, numberIn, offsetOf, readBody, readDate, readRest, readUtc, restDate, restEnd, restWith, signed, spacedAt, twoDigits, utcDate, utcEnd, utcNames, utcWith, zoneOf}
 use Rattle.dates.specs.Write.{dateSecondText, dateText, two, utcSecondText, utcText, zoneText}
-use Rattle.dates.specs.declared.date.DateTime.{DateTime}
-use Rattle.dates.specs.declared.date.Second.{Second}
-use Rattle.dates.specs.declared.date.Second.the-variants.{At, Absent}
+use Rattle.date_read.specs.declared.date.DateTime.{DateTime}
+use Rattle.date_read.specs.declared.date.Second.{Second}
+use Rattle.date_read.specs.declared.date.Second.the-variants.{At, Absent}
 use Rattle.dates.proofs.Laws.Convert.{date-date, utc-date}
-use Rattle.dates.proofs.Laws.Month.{date-month, date-offset, letters, month-letters, named}
+use Rattle.dates.proofs.Laws.Bounds.{Bounds, bounds}
+use Rattle.dates.proofs.Laws.Month.{month-first, month-length, month-number, nameOf}
 use Rattle.dates.proofs.Laws.Written.{zone-length}
 
 -- ---- digits
@@ -70,65 +71,6 @@ zone-date z h =
     let l = zone-length z in
     rw (not-named (bytes "GMT") (zoneText z) (λ e. absurd (omega arith)), not-named (bytes "UT") (zoneText z) (λ e. absurd (omega arith))) (zone-minutes z h)
 
--- ---- what a date's numbers are below
-
-month-most : (m : ℕ) → getD monthDays m 0 ≤ 31
-month-most zero = omega arith
-month-most (suc zero) = omega arith
-month-most (suc (suc zero)) = omega arith
-month-most (suc (suc (suc zero))) = omega arith
-month-most (suc (suc (suc (suc zero)))) = omega arith
-month-most (suc (suc (suc (suc (suc zero))))) = omega arith
-month-most (suc (suc (suc (suc (suc (suc zero)))))) = omega arith
-month-most (suc (suc (suc (suc (suc (suc (suc zero))))))) = omega arith
-month-most (suc (suc (suc (suc (suc (suc (suc (suc zero)))))))) = omega arith
-month-most (suc (suc (suc (suc (suc (suc (suc (suc (suc zero))))))))) = omega arith
-month-most (suc (suc (suc (suc (suc (suc (suc (suc (suc (suc zero)))))))))) = omega arith
-month-most (suc (suc (suc (suc (suc (suc (suc (suc (suc (suc (suc zero))))))))))) = omega arith
-month-most (suc (suc (suc (suc (suc (suc (suc (suc (suc (suc (suc (suc zero)))))))))))) = omega arith
-month-most (suc (suc (suc (suc (suc (suc (suc (suc (suc (suc (suc (suc (suc k))))))))))))) = omega arith
-
-days-most : (y m : ℕ) → daysIn y m ≤ 31
-unfolding daysIn
-days-most y m =
-    by-test (eqb m 2 && eqb (y % 4) 0)
-    (λ e. rw e (omega arith))
-    (λ e. rw e (month-most m))
-
--- A date's numbers, each below its bound.
-record Bounds (d : DateTime) : Type 0 where
-  year : d .year ≤ 99
-  month : d .month ≤ 99
-  day : d .day ≤ 99
-  hour : d .hour ≤ 99
-  minute : d .minute ≤ 99
-  second : isSecond (d .second) ≡ true
-  offset : natAbs (d .offset) ≤ mostOffset
-
-bounds : (d : DateTime) → isDate d ≡ true → Bounds d
-unfolding isDate isDay isTime
-bounds d h =
-    let y = leb (d .year) 99 in
-    let one = leb 1 (d .day) in
-    let most = leb (d .day) (daysIn (d .year) (d .month)) in
-    let hour = leb (d .hour) 23 in
-    let minute = leb (d .minute) 59 in
-    let second = isSecond (d .second) in
-    let z = leb (natAbs (d .offset)) mostOffset in
-    let a = and-left (isDay (d .year) (d .month) (d .day) && isTime (d .hour) (d .minute) (d .second)) z h in
-    let b = and-left (y && one && most) (hour && minute && second) a in
-    let t = and-right (y && one && most) (hour && minute && second) a in
-    let u = and-left (hour && minute) second t in
-    record {
-      year = leb-true (d .year) 99 (and-left y one (and-left (y && one) most b));
-      month = omega (arith, date-month d h .1);
-      day = omega (arith, leb-true (d .day) (daysIn (d .year) (d .month)) (and-right (y && one) most b), days-most (d .year) (d .month));
-      hour = omega (arith, leb-true (d .hour) 23 (and-left hour minute u));
-      minute = omega (arith, leb-true (d .minute) 59 (and-right hour minute u));
-      second = and-right (hour && minute) second t;
-      offset = date-offset d h;
-    }
-
 -- ---- UTCTime
 
 module _ (y m d hh mm : ℕ) (z : ℤ) where
@@ -160,12 +102,12 @@ module _ (y m d hh mm : ℕ) (z : ℤ) where
       let s : List ℕ = utcText (dated (At n)) in
       let k : n ≤ 59 = leb-true n 59 (b .second) in
       utc-ending s 12 (told-end n k)
-      ∙ utc-numbers s (At (twoDigits s 10)) (At n) (zoneOf utcNames (drop 12 s)) (digits-back s 0 y (b .year) refl refl) (digits-back s 2 m (b .month) refl refl) (digits-back s 4 d (b .day) refl refl) (digits-back s 6 hh (b .hour) refl refl) (digits-back s 8 mm (b .minute) refl refl)
+      ∙ utc-numbers s (At (twoDigits s 10)) (At n) (zoneOf utcNames (drop 12 s)) (digits-back s 0 y (b .year) refl refl) (digits-back s 2 m (omega (arith, b .month .1)) refl refl) (digits-back s 4 d (b .day) refl refl) (digits-back s 6 hh (b .hour) refl refl) (digits-back s 8 mm (b .minute) refl refl)
       (ap At (digits-back s 10 n (omega arith) refl refl)) (zone-utc z (b .offset))
   utc-at Absent b =
       let s : List ℕ = utcText (dated Absent) in
       utc-ending s 10 absent-end
-      ∙ utc-numbers s Absent Absent (zoneOf utcNames (drop 10 s)) (digits-back s 0 y (b .year) refl refl) (digits-back s 2 m (b .month) refl refl) (digits-back s 4 d (b .day) refl refl) (digits-back s 6 hh (b .hour) refl refl) (digits-back s 8 mm (b .minute) refl refl)
+      ∙ utc-numbers s Absent Absent (zoneOf utcNames (drop 10 s)) (digits-back s 0 y (b .year) refl refl) (digits-back s 2 m (omega (arith, b .month .1)) refl refl) (digits-back s 4 d (b .day) refl refl) (digits-back s 6 hh (b .hour) refl refl) (digits-back s 8 mm (b .minute) refl refl)
       refl (zone-utc z (b .offset))
 
 kept-is : (d : DateTime) → isDate d ≡ true → kept d ≡ some d
@@ -178,37 +120,13 @@ utc-back d h = ap kept (utc-at (d .year) (d .month) (d .day) (d .hour) (d .minut
 
 -- ---- date-time
 
--- a month's name is that month's, and begins with no comma
-month-number : (k : ℕ) → k < 12 → numberIn 1 monthNames (named k) ≡ suc k
-unfolding numberIn sameText agree sameByte foldCase bytes
-month-number zero h = refl
-month-number (suc zero) h = refl
-month-number (suc (suc zero)) h = refl
-month-number (suc (suc (suc zero))) h = refl
-month-number (suc (suc (suc (suc zero)))) h = refl
-month-number (suc (suc (suc (suc (suc zero))))) h = refl
-month-number (suc (suc (suc (suc (suc (suc zero)))))) h = refl
-month-number (suc (suc (suc (suc (suc (suc (suc zero))))))) h = refl
-month-number (suc (suc (suc (suc (suc (suc (suc (suc zero)))))))) h = refl
-month-number (suc (suc (suc (suc (suc (suc (suc (suc (suc zero))))))))) h = refl
-month-number (suc (suc (suc (suc (suc (suc (suc (suc (suc (suc zero)))))))))) h = refl
-month-number (suc (suc (suc (suc (suc (suc (suc (suc (suc (suc (suc zero))))))))))) h = refl
-month-number (suc (suc (suc (suc (suc (suc (suc (suc (suc (suc (suc (suc k)))))))))))) h = absurd (omega arith)
-
-month-first : (k : ℕ) → k < 12 → eqb (getD letters (3 * k) 0) 44 ≡ false
-month-first zero h = refl
-month-first (suc zero) h = refl
-month-first (suc (suc zero)) h = refl
-month-first (suc (suc (suc zero))) h = refl
-month-first (suc (suc (suc (suc zero)))) h = refl
-month-first (suc (suc (suc (suc (suc zero))))) h = refl
-month-first (suc (suc (suc (suc (suc (suc zero)))))) h = refl
-month-first (suc (suc (suc (suc (suc (suc (suc zero))))))) h = refl
-month-first (suc (suc (suc (suc (suc (suc (suc (suc zero)))))))) h = refl
-month-first (suc (suc (suc (suc (suc (suc (suc (suc (suc zero))))))))) h = refl
-month-first (suc (suc (suc (suc (suc (suc (suc (suc (suc (suc zero)))))))))) h = refl
-month-first (suc (suc (suc (suc (suc (suc (suc (suc (suc (suc (suc zero))))))))))) h = refl
-month-first (suc (suc (suc (suc (suc (suc (suc (suc (suc (suc (suc (suc k)))))))))))) h = absurd (omega arith)
+-- three letters, one by one
+three-letters : (n : List ℕ) → length n ≡ 3 → n ≡ getD n 0 0 ∷ getD n 1 0 ∷ getD n 2 0 ∷ []
+three-letters [] h = absurd (omega arith)
+three-letters (a ∷ []) h = absurd (omega arith)
+three-letters (a ∷ b ∷ []) h = absurd (omega arith)
+three-letters (a ∷ b ∷ c ∷ []) h = refl
+three-letters (a ∷ b ∷ c ∷ d ∷ s) h = absurd (omega arith)
 
 -- a date-time with its month's name letter by letter
 abbrev spelled : ℕ → ℕ → ℕ → DateTime → List ℕ
@@ -256,26 +174,16 @@ module _ (y m d hh mm : ℕ) (z : ℤ) where
     date-at s e h =
         body-at s e ∙ ap (λ (n : ℕ). readRest n (drop 2 (text s))) (day-at s h) ∙ rest-spaced s ∙ ap kept (rest-at s h)
 
--- a date-time as it is written
-spelled-is : (d : DateTime) → isDate d ≡ true
-    → dateText d ≡ spelled (getD letters (3 * (d .month - 1)) 0) (getD letters (3 * (d .month - 1) + 1) 0) (getD letters (3 * (d .month - 1) + 2) 0) d
-unfolding dateText
-spelled-is d h =
-    let m = date-month d h in
-    ap (λ (n : List ℕ). two (d .day) ++ (32 ∷ []) ++ n ++ (32 ∷ two (d .year)) ++ (32 ∷ two (d .hour)) ++ (58 ∷ two (d .minute)) ++ dateSecondText (d .second) ++ (32 ∷ []) ++ zoneText (d .offset))
-    (sym (month-letters (d .month) (m .0) (m .1)))
-
 pub date-back : (d : DateTime) → isDate d ≡ true → readDate (dateText d) ≡ some d
+unfolding dateText
 date-back d h =
-    let m = date-month d h in
-    let k : ℕ = d .month - 1 in
-    let i : numberIn 1 monthNames (named k) ≡ d .month = month-number k (omega (arith, m .0, m .1)) ∙ next in
-    ap readDate (spelled-is d h)
-    ∙ date-at (d .year) (d .month) (d .day) (d .hour) (d .minute) (d .offset) (getD letters (3 * k) 0) (getD letters (3 * k + 1) 0) (getD letters (3 * k + 2) 0) i (d .second) (month-first k (omega (arith, m .0, m .1))) (bounds d h)
+    let m = bounds d h .month in
+    let n = nameOf (d .month) in
+    let e : n ≡ getD n 0 0 ∷ getD n 1 0 ∷ getD n 2 0 ∷ [] = three-letters n (month-length (d .month) (m .0) (m .1)) in
+    let i : numberIn 1 monthNames (getD n 0 0 ∷ getD n 1 0 ∷ getD n 2 0 ∷ []) ≡ d .month = ap (numberIn 1 monthNames) (sym e) ∙ month-number (d .month) (m .0) (m .1) in
+    ap (λ (x : List ℕ). readDate (two (d .day) ++ (32 ∷ []) ++ x ++ (32 ∷ two (d .year)) ++ (32 ∷ two (d .hour)) ++ (58 ∷ two (d .minute)) ++ dateSecondText (d .second) ++ (32 ∷ []) ++ zoneText (d .offset))) e
+    ∙ date-at (d .year) (d .month) (d .day) (d .hour) (d .minute) (d .offset) (getD n 0 0) (getD n 1 0) (getD n 2 0) i (d .second) (month-first (d .month) (m .0) (m .1)) (bounds d h)
     ∙ kept-is d h
-  where
-    next : suc (d .month - 1) ≡ d .month
-    next = let m = date-month d h in omega (arith, m .0)
 
 -- ---- out and back
 

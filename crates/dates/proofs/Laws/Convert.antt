@@ -9,12 +9,11 @@ use native.Mathlib.Omega.{arith}
 use lib.Dec.{eqb}
 use lib.ListN.{length, take, drop, getD, length-append}
 use Rattle.chars.proofs.Laws.Lists.{by-test}
-use Rattle.dates.specs.Date.{isDate}
-use Rattle.dates.specs.Read.{dayNames, kept, monthNames, numberIn, oneDigit, readBody, readDate, readRest, readUtc, restDate, restEnd, spacedAt, twoDigits, utcDate}
-use Rattle.dates.specs.Write.{dateSecondText, dateText, two, utcSecondText, utcText, zoneText}
-use Rattle.dates.specs.declared.date.DateTime.{DateTime}
-use Rattle.dates.proofs.Laws.Month.{date-day-length}
-use Rattle.dates.proofs.Laws.Written.{behind-length, date-second-length, two-length, utc-day-length, utc-second-length, zone-length}
+use Rattle.date_read.specs.Date.{isDate}
+use Rattle.date_read.specs.Read.{dayNames, kept, monthNames, numberIn, oneDigit, readBody, readDate, readRest, readUtc, restDate, restEnd, spacedAt, twoDigits, utcDate}
+use Rattle.dates.specs.Write.{dateRoom, dateSecondText, dateText, two, utcSecondText, utcText, zoneText}
+use Rattle.date_read.specs.declared.date.DateTime.{DateTime}
+use Rattle.dates.proofs.Laws.Written.{behind-length, date-day-length, date-second-length, two-length, utc-day-length, utc-second-length, zone-length}
 
 -- ---- what is read is a date
 
@@ -58,7 +57,7 @@ date-date s d h =
 
 -- ---- how long a text can be
 
-pub utc-length : (d : DateTime) → length (utcText d) ≤ 32
+pub utc-length : (d : DateTime) → length (utcText d) ≤ dateRoom
 unfolding utcText
 utc-length d =
     let a = two (d .year) ++ two (d .month) ++ two (d .day) in
@@ -67,7 +66,7 @@ utc-length d =
     let f = e ++ utcSecondText (d .second) in
     omega (arith, length-append f (zoneText (d .offset)), length-append e (utcSecondText (d .second)), length-append b (two (d .minute)), length-append a (two (d .hour)), utc-day-length (d .year) (d .month) (d .day), two-length (d .hour), two-length (d .minute), utc-second-length (d .second), zone-length (d .offset))
 
-pub date-length : (d : DateTime) → isDate d ≡ true → length (dateText d) ≤ 32
+pub date-length : (d : DateTime) → isDate d ≡ true → length (dateText d) ≤ dateRoom
 unfolding dateText
 date-length d h =
     let a = two (d .day) ++ (32 ∷ []) ++ getD monthNames (d .month - 1) [] ++ (32 ∷ two (d .year)) in

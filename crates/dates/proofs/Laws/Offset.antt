@@ -13,12 +13,12 @@ use mir.Syntax.{w32}
 use mir.Val.{SFits, ofZ, toZ}
 use mir.ValLaws.{toZ-ofZ}
 use Rattle.chars.proofs.Laws.Lists.{true-not-false}
-use Rattle.dates.specs.Date.{mostOffset}
+use Rattle.date_read.specs.Date.{mostOffset}
+use Rattle.date_read.proofs.Laws.Read.{fits as fits-type}
 
 -- an offset fits, and so does any number no greater, sign aside
 pub fits : (z : ℤ) → natAbs z ≤ mostOffset → SFits w32 z
-fits (pos n) h = record { sfits = omega arith }
-fits (negsuc n) h = record { sfits = omega arith }
+fits z h = fits-type z (omega arith)
 
 abs-neg : (n : ℕ) → natAbs (negℤ (pos n)) ≡ n
 abs-neg zero = refl

@@ -1,15 +1,20 @@
 -- Laws of writing dates.
 -- Assumes nothing.
 use mathlib.Core.Path.{_≡_, refl, subst}
-use mathlib.Core.List.{List, _∷_, _++_}
+use mathlib.Core.Bool.{true}
+use mathlib.Core.List.{List, [], _∷_, _++_}
 use Prim.Native.Nat.{ℕ, _≤_}
 use native.Mathlib.Omega.{arith}
 use lib.IntN.{ℤ}
-use lib.ListN.{length}
+use lib.ListN.{length, length-append}
 use Rattle.chars.specs.Write.{Wrote}
 use Rattle.dates.specs.Write.{dateSecondText, two, utcSecondText, zoneText}
-use Rattle.dates.specs.declared.date.Second.{Second}
-use Rattle.dates.specs.declared.date.Second.the-variants.{At, Absent}
+use Rattle.date_read.specs.Date.{isDate}
+use Rattle.date_read.specs.declared.date.DateTime.{DateTime}
+use Rattle.date_read.specs.declared.date.Second.{Second}
+use Rattle.date_read.specs.declared.date.Second.the-variants.{At, Absent}
+use Rattle.dates.proofs.Laws.Bounds.{bounds}
+use Rattle.dates.proofs.Laws.Month.{month-length, nameOf}
 
 -- a write of a text is one of an equal text
 pub wrote-as : {o n : List ℕ} {i j : ℕ} (s t : List ℕ) → s ≡ t → Wrote o i s j n → Wrote o i t j n
@@ -40,3 +45,11 @@ utc-day-length y m d = refl
 pub behind-length : (b n : ℕ) → length (b ∷ two n) ≡ 3
 unfolding two
 behind-length b n = refl
+
+-- the day, month and year of a date-time
+pub date-day-length : (d : DateTime) → isDate d ≡ true → length (two (d .day) ++ (32 ∷ []) ++ nameOf (d .month) ++ (32 ∷ two (d .year))) ≡ 9
+date-day-length d h =
+    let m = bounds d h .month in
+    let a = two (d .day) in
+    let n = nameOf (d .month) in
+    omega (arith, length-append (a ++ (32 ∷ []) ++ n) (32 ∷ two (d .year)), length-append (a ++ (32 ∷ [])) n, length-append a (32 ∷ []), two-length (d .day), month-length (d .month) (m .0) (m .1), behind-length 32 (d .year))

@@ -5,10 +5,10 @@ use mathlib.Core.Option.{Option, some}
 use Rattle.chars.specs.Write.{refusedText}
 use Rattle.dates.specs.Answers.{told}
 use Rattle.dates.specs.Convert.{converted, dateToUtc}
-use Rattle.dates.specs.Read.{readDate}
+use Rattle.date_read.specs.Read.{readDate}
 use Rattle.dates.specs.Write.{utcText}
 use Rattle.dates.specs.declared.convert.DateWritten.{DateWritten}
-use Rattle.dates.specs.declared.date.DateTime.{DateTime}
+use Rattle.date_read.specs.declared.date.DateTime.{DateTime}
 use Rattle.dates.proofs.Laws.Convert.{date-date}
 use borrow.Author.Needs.{needs}
 use Rattle.dates.proofs.convert.date_to_utc.Statement.{statement}

@@ -5,10 +5,10 @@ use mathlib.Core.Option.{Option, some}
 use Rattle.chars.specs.Write.{refusedText}
 use Rattle.dates.specs.Answers.{told}
 use Rattle.dates.specs.Convert.{converted, utcToDate}
-use Rattle.dates.specs.Read.{readUtc}
+use Rattle.date_read.specs.Read.{readUtc}
 use Rattle.dates.specs.Write.{dateText}
 use Rattle.dates.specs.declared.convert.DateWritten.{DateWritten}
-use Rattle.dates.specs.declared.date.DateTime.{DateTime}
+use Rattle.date_read.specs.declared.date.DateTime.{DateTime}
 use Rattle.dates.proofs.Laws.Convert.{utc-date}
 use borrow.Author.Needs.{needs}
 use Rattle.dates.proofs.convert.utc_to_date.Statement.{statement}

@@ -2,7 +2,8 @@
 -- Assumes nothing.
 use native.Mathlib.Omega.{arith}
 use Rattle.chars.proofs.Laws.Write.{wrote-length, wrote-then}
-use Rattle.dates.proofs.Laws.Month.{date-month, month-length}
+use Rattle.dates.proofs.Laws.Bounds.{bounds}
+use Rattle.dates.proofs.Laws.Month.{month-length}
 use Rattle.dates.proofs.Laws.Written.{two-length}
 use borrow.Author.Needs.{needs}
 use Rattle.dates.proofs.write.put_date_day.Statement.{statement}
@@ -22,7 +23,7 @@ put-month-requires c κs =
     let q = c .before .before .before in
     let p = q .before .before .before .before in
     let s = p .before .before .before in (
-      date-month (s .args .d) (s .pre .0),
+      bounds (s .args .d) (s .pre .0) .month,
       omega (arith, s .pre .1, p .put-two .ensures .moved, two-length (s .args .d .day), wrote-length (p .put-two .ensures), q .put-byte .ensures .moved, wrote-length (q .put-byte .ensures)),
     )
 
@@ -33,7 +34,7 @@ put-behind-requires c κs =
     let p = q .before .before .before .before in
     let s = p .before .before .before in
     let d = s .args .d in
-    let m = date-month d (s .pre .0) in
+    let m = bounds d (s .pre .0) .month in
     omega (arith, s .pre .1, p .put-two .ensures .moved, two-length (d .day), wrote-length (p .put-two .ensures), q .put-byte .ensures .moved, wrote-length (q .put-byte .ensures), r .put-month .ensures .moved, month-length (d .month) (m .0) (m .1), wrote-length (r .put-month .ensures))
 
 same-length : tie.Need-same-length

@@ -2,14 +2,12 @@
 -- Assumes nothing.
 use mathlib.Core.Path.{_≡_, sym, ap, subst, _∙_}
 use mathlib.Core.List.{_∷_, _++_}
-use mathlib.Core.Bool.{cond}
 use Prim.Native.Nat.{_/_, _%_, _+_, _≤_}
 use native.Mathlib.Omega.{arith}
 use lib.IntN.{ℤ, natAbs}
-use lib.Signed.{nonNeg}
 use Rattle.chars.proofs.Laws.Write.{wrote-length, wrote-then}
-use Rattle.dates.specs.Date.{mostOffset}
-use Rattle.dates.specs.Write.{two, zoneText}
+use Rattle.date_read.specs.Date.{mostOffset}
+use Rattle.dates.specs.Write.{signOf, two, zoneText}
 use Rattle.dates.proofs.Laws.Offset.{plain, quot-abs, quot-fits, quot-plain, quot-small, rem-abs, rem-plain, rem-small}
 use Rattle.dates.proofs.Laws.Written.{two-length, wrote-as}
 use borrow.Author.Needs.{needs}
@@ -66,7 +64,7 @@ returns c =
     let sign = b .before .before .sign-of in
     let first = p .before .size-of in
     let last = c .before .before .before .size-of2 in
-    let e0 : sign .result ≡ cond (nonNeg z) 43 45 = sign .ensures ∙ ap (λ (v : ℤ). cond (nonNeg v) 43 45) (plain z h) in
+    let e0 : sign .result ≡ signOf z = sign .ensures ∙ ap (λ (v : ℤ). signOf v) (plain z h) in
     let e1 : first .result ≡ natAbs z / 60 = first .ensures ∙ ap natAbs (quot-plain z h) ∙ quot-abs z in
     let e2 : last .result ≡ natAbs z % 60 = last .ensures ∙ ap natAbs (rem-plain z h) ∙ rem-abs z in
     let e : (sign .result ∷ two (first .result)) ++ two (last .result) ≡ zoneText z = rw (e0, e1, e2) in

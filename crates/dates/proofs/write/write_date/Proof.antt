@@ -9,12 +9,12 @@ use lib.ListN.{getD}
 use mir.Syntax.{w32}
 use mir.Val.{ofZ, toZ}
 use Rattle.chars.proofs.Laws.Write.{wrote-length, wrote-then}
-use Rattle.dates.specs.Date.{mostOffset}
-use Rattle.dates.specs.Read.{monthNames}
+use Rattle.date_read.specs.Date.{mostOffset}
+use Rattle.date_read.specs.Read.{monthNames}
 use Rattle.dates.specs.Write.{dateSecondText, dateText, two, zoneText}
-use Rattle.dates.proofs.Laws.Month.{date-day-length, date-offset}
+use Rattle.dates.proofs.Laws.Bounds.{bounds}
 use Rattle.dates.proofs.Laws.Offset.{plain}
-use Rattle.dates.proofs.Laws.Written.{behind-length, date-second-length, wrote-as}
+use Rattle.dates.proofs.Laws.Written.{behind-length, date-day-length, date-second-length, wrote-as}
 use borrow.Author.Needs.{needs}
 use Rattle.dates.proofs.write.write_date.Statement.{statement}
 use Rattle.dates.proofs.write.write_date.Tie as tie
@@ -65,7 +65,7 @@ put-zone-requires c κs =
     let p = q .before .before .before .before in
     let s = p .before .before .before in
     let d = s .args .d in (
-      subst (λ (v : ℤ). natAbs v ≤ mostOffset) (sym (plain (d .offset) (date-offset d (s .pre .0)))) (date-offset d (s .pre .0)),
+      subst (λ (v : ℤ). natAbs v ≤ mostOffset) (sym (plain (d .offset) (bounds d (s .pre .0) .offset))) (bounds d (s .pre .0) .offset),
       omega (arith, s .pre .1, p .put-date-day .ensures .moved, date-day-length d (s .pre .0), wrote-length (p .put-date-day .ensures), q .put-behind .ensures .moved, behind-length 32 (d .hour), wrote-length (q .put-behind .ensures), r .put-behind2 .ensures .moved, behind-length 58 (d .minute), wrote-length (r .put-behind2 .ensures), u .put-date-second .ensures .moved, date-second-length (d .second), wrote-length (u .put-date-second .ensures), b .put-byte .ensures .moved, wrote-length (b .put-byte .ensures)),
     )
 
@@ -83,7 +83,7 @@ returns c =
     let s = p .before .before .before in
     let d = s .args .d in
     let front = two (d .day) ++ (32 ∷ []) ++ getD monthNames (d .month - 1) [] ++ (32 ∷ two (d .year)) ++ (32 ∷ two (d .hour)) ++ (58 ∷ two (d .minute)) ++ dateSecondText (d .second) ++ (32 ∷ []) in
-    wrote-as (front ++ zoneText (toZ w32 (ofZ w32 (d .offset)))) (dateText d) (ap (λ (v : ℤ). front ++ zoneText v) (plain (d .offset) (date-offset d (s .pre .0))))
+    wrote-as (front ++ zoneText (toZ w32 (ofZ w32 (d .offset)))) (dateText d) (ap (λ (v : ℤ). front ++ zoneText v) (plain (d .offset) (bounds d (s .pre .0) .offset)))
     (wrote-then (wrote-then (wrote-then (wrote-then (wrote-then (p .put-date-day .ensures) (q .put-behind .ensures)) (r .put-behind2 .ensures)) (u .put-date-second .ensures)) (b .put-byte .ensures)) (c .before .before .put-zone .ensures))
 
 pub write-date-spec : {M : Type 1} → statement M

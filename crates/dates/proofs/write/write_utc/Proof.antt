@@ -5,9 +5,9 @@ use Prim.Native.Nat.{_≤_}
 use mathlib.Core.Path.{sym, subst, ap}
 use lib.IntN.{ℤ, natAbs}
 use Rattle.chars.proofs.Laws.Write.{wrote-length, wrote-then}
-use Rattle.dates.specs.Date.{mostOffset}
+use Rattle.date_read.specs.Date.{mostOffset}
 use Rattle.dates.specs.Write.{two, utcText, zoneText, utcSecondText}
-use Rattle.dates.proofs.Laws.Month.{date-offset}
+use Rattle.dates.proofs.Laws.Bounds.{bounds}
 use Rattle.dates.proofs.Laws.Offset.{plain}
 use Rattle.dates.proofs.Laws.Written.{two-length, utc-day-length, utc-second-length, wrote-as}
 use mathlib.Core.List.{_++_}
@@ -52,7 +52,7 @@ put-zone-requires c κs =
     let p = q .before .before .before .before in
     let s = p .before .before .before in
     let d = s .args .d in (
-      subst (λ (v : ℤ). natAbs v ≤ mostOffset) (sym (plain (d .offset) (date-offset d (s .pre .0)))) (date-offset d (s .pre .0)),
+      subst (λ (v : ℤ). natAbs v ≤ mostOffset) (sym (plain (d .offset) (bounds d (s .pre .0) .offset))) (bounds d (s .pre .0) .offset),
       omega (arith, s .pre .1, p .put-utc-day .ensures .moved, utc-day-length (d .year) (d .month) (d .day), wrote-length (p .put-utc-day .ensures), q .put-two .ensures .moved, two-length (d .hour), wrote-length (q .put-two .ensures), r .put-two2 .ensures .moved, two-length (d .minute), wrote-length (r .put-two2 .ensures), u .put-utc-second .ensures .moved, utc-second-length (d .second), wrote-length (u .put-utc-second .ensures)),
     )
 
@@ -69,7 +69,7 @@ returns c =
     let s = p .before .before .before in
     let d = s .args .d in
     let front = two (d .year) ++ two (d .month) ++ two (d .day) ++ two (d .hour) ++ two (d .minute) ++ utcSecondText (d .second) in
-    wrote-as (front ++ zoneText (toZ w32 (ofZ w32 (d .offset)))) (utcText d) (ap (λ (v : ℤ). front ++ zoneText v) (plain (d .offset) (date-offset d (s .pre .0))))
+    wrote-as (front ++ zoneText (toZ w32 (ofZ w32 (d .offset)))) (utcText d) (ap (λ (v : ℤ). front ++ zoneText v) (plain (d .offset) (bounds d (s .pre .0) .offset)))
     (wrote-then (wrote-then (wrote-then (wrote-then (p .put-utc-day .ensures) (q .put-two .ensures)) (r .put-two2 .ensures)) (u .put-utc-second .ensures)) (c .before .before .put-zone .ensures))
 
 pub write-utc-spec : {M : Type 1} → statement M

@@ -1,0 +1,3 @@
+pub mod Date
+pub mod Names
+pub mod Read

@@ -1,0 +1,50 @@
+-- `date_read::read::utc_with` meets its contract.
+-- Assumes nothing.
+use mathlib.Core.Path.{_∙_, ap}
+use mir.Syntax.{w32}
+use mir.ValLaws.{toZ-ofZ}
+use Rattle.date_read.specs.Read.{kept}
+use Rattle.date_read.proofs.Laws.Read.{utc-with}
+use borrow.Author.Needs.{needs}
+use Rattle.date_read.proofs.read.utc_with.Statement.{statement}
+use Rattle.date_read.proofs.read.utc_with.Tie as tie
+
+two-digits-requires : tie.Need-two-digits-requires
+two-digits-requires c κs = search needs
+
+two-digits-requires-2 : tie.Need-two-digits-requires-2
+two-digits-requires-2 c κs = search needs
+
+two-digits-requires-3 : tie.Need-two-digits-requires-3
+two-digits-requires-3 c κs = search needs
+
+two-digits-requires-4 : tie.Need-two-digits-requires-4
+two-digits-requires-4 c κs = search needs
+
+two-digits-requires-5 : tie.Need-two-digits-requires-5
+two-digits-requires-5 c κs = search needs
+
+if-date-requires : tie.Need-if-date-requires
+if-date-requires c κs = search needs
+
+returns : tie.Need-returns
+returns c =
+    let d = c .before .before .before in
+    let a = d .before .before .before .before .args in
+    c .if-date .ensures
+    ∙ ap kept
+    (utc-with (a .s .now) _ _ _ _ _ (a .second) (a .offset) _ (d .before .before .two-digits .ensures) (d .before .two-digits2 .ensures)
+    (d .two-digits3 .ensures) (c .before .before .two-digits4 .ensures) (c .before .two-digits5 .ensures)
+    (toZ-ofZ w32 (a .offset) (d .before .before .before .before .fits .offset)))
+
+pub utc-with-spec : {M : Type 1} → statement M
+utc-with-spec =
+    tie.close
+    (tie.spec
+    two-digits-requires
+    two-digits-requires-2
+    two-digits-requires-3
+    two-digits-requires-4
+    two-digits-requires-5
+    if-date-requires
+    returns)
