@@ -18,6 +18,7 @@ use mailaddr::shape::unquote_local;
 use mailaddr::tail::shared_tail;
 ghost use Prim.Native.Nat.{_<_, _≤_};
 ghost use lib.ListN.{length};
+ghost use Rattle.address_cases.specs.Limits.{longestText};
 
 // Room for any text here: the longest of the input, every character of it escaped.
 const ROOM: usize = 8192;
@@ -45,7 +46,7 @@ fn print_local(s: &[u8]) {
 }
 
 fn print_unquoted(s: &[u8], parted: Parted)
-    requires { ⌜ length (now s) ≤ 2100 ⌝ }
+    requires { ⌜ length (now s) ≤ longestText ⌝ }
     requires { ⌜ parted .at ≤ length (now s) ⌝ }
 {
     let mut out = [0u8; ROOM];
@@ -54,7 +55,7 @@ fn print_unquoted(s: &[u8], parted: Parted)
 }
 
 fn print_parted(s: &[u8], parted: Parted)
-    requires { ⌜ length (now s) ≤ 2100 ⌝ }
+    requires { ⌜ length (now s) ≤ longestText ⌝ }
 {
     say(b"0 ");
     say_number(parted.at);
@@ -65,7 +66,7 @@ fn print_parted(s: &[u8], parted: Parted)
 }
 
 fn print_shape(s: &[u8])
-    requires { ⌜ length (now s) ≤ 2100 ⌝ }
+    requires { ⌜ length (now s) ≤ longestText ⌝ }
 {
     match read_shape(s) {
         ShapeRead::Address(parted) => print_parted(s, parted),
@@ -75,7 +76,7 @@ fn print_shape(s: &[u8])
 }
 
 fn print_coded(s: &[u8])
-    requires { ⌜ length (now s) ≤ 2100 ⌝ }
+    requires { ⌜ length (now s) ≤ longestText ⌝ }
 {
     let mut out = [0u8; 128];
     let n = put_coded(&mut out, s);
@@ -84,7 +85,7 @@ fn print_coded(s: &[u8])
 }
 
 fn print_decoded(s: &[u8])
-    requires { ⌜ length (now s) ≤ 2100 ⌝ }
+    requires { ⌜ length (now s) ≤ longestText ⌝ }
 {
     let mut out = [0u8; ROOM];
     match decode(&mut out, s) {
@@ -97,8 +98,8 @@ fn print_decoded(s: &[u8])
 }
 
 fn print_address(s: &[u8], domain: &[u8])
-    requires { ⌜ length (now s) ≤ 2100 ⌝ }
-    requires { ⌜ length (now domain) ≤ 2100 ⌝ }
+    requires { ⌜ length (now s) ≤ longestText ⌝ }
+    requires { ⌜ length (now domain) ≤ longestText ⌝ }
 {
     let mut out = [0u8; ROOM];
     let n = put_address(&mut out, 0, s, domain);
@@ -133,7 +134,7 @@ fn print_tail(a: &[u8], b: &[u8]) {
 
 // A command with one text.
 fn print_one(command: u8, text: &[u8])
-    requires { ⌜ length (now text) ≤ 2100 ⌝ }
+    requires { ⌜ length (now text) ≤ longestText ⌝ }
 {
     match command {
         b'S' => print_shape(text),
@@ -145,8 +146,8 @@ fn print_one(command: u8, text: &[u8])
 
 // A command with two texts.
 fn print_two(command: u8, first: &[u8], second: &[u8])
-    requires { ⌜ length (now first) ≤ 2100 ⌝ }
-    requires { ⌜ length (now second) ≤ 2100 ⌝ }
+    requires { ⌜ length (now first) ≤ longestText ⌝ }
+    requires { ⌜ length (now second) ≤ longestText ⌝ }
 {
     if command == b'Q' {
         print_address(first, second);

@@ -2,9 +2,10 @@
 // keeps the sums from wrapping: every place is far below, since standard input is.
 ghost use Prim.Native.Nat.{_+_, _<_, _≤_};
 ghost use lib.ListN.{length};
+ghost use Rattle.address_cases.specs.Limits.{farPlace, longestText};
 
 // The longest text that is looked at; the cases have none longer.
-const LONGEST: usize = 2100;
+const LONGEST_TEXT: usize = 2100;
 
 fn wide(b: u8) -> usize
     ensures { λ r. ⌜ r < 256 ⌝ }
@@ -21,7 +22,7 @@ fn byte_at(s: &[u8], at: usize) -> usize
 
 // The length of the text at a place.
 fn size_at(s: &[u8], at: usize) -> usize
-    requires { ⌜ at < 1000000 ⌝ }
+    requires { ⌜ at < farPlace ⌝ }
     ensures { λ r. ⌜ r < 65536 ⌝ }
 {
     byte_at(s, at) * 256 + byte_at(s, at + 1)
@@ -29,9 +30,9 @@ fn size_at(s: &[u8], at: usize) -> usize
 
 // How many bytes of a text of n bytes are looked at.
 fn shown(n: usize) -> usize
-    ensures { λ r. ⌜ r ≤ 2100 ⌝ }
+    ensures { λ r. ⌜ r ≤ longestText ⌝ }
 {
-    if n < LONGEST { n } else { LONGEST }
+    if n < LONGEST_TEXT { n } else { LONGEST_TEXT }
 }
 
 // n bytes from a place on, or as many as there are.
@@ -51,15 +52,15 @@ pub(crate) fn part(s: &[u8], at: usize, n: usize) -> &[u8]
 
 // The text at a place, or as much of it as there is and is looked at.
 pub(crate) fn text_at(s: &[u8], at: usize) -> &[u8]
-    requires { ⌜ at < 1000000 ⌝ }
-    ensures { λ r. ⌜ length (now r) ≤ 2100 ⌝ }
+    requires { ⌜ at < farPlace ⌝ }
+    ensures { λ r. ⌜ length (now r) ≤ longestText ⌝ }
 {
     part(s, at + 2, shown(size_at(s, at)))
 }
 
 // Where the text at a place ends.
 pub(crate) fn past_text(s: &[u8], at: usize) -> usize
-    requires { ⌜ at < 1000000 ⌝ }
+    requires { ⌜ at < farPlace ⌝ }
     ensures { λ r. ⌜ (at < r) × (r ≤ at + 65537) ⌝ }
 {
     at + 2 + size_at(s, at)

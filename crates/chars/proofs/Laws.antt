@@ -1,7 +1,9 @@
 pub mod Case
 pub mod Class
+pub mod Digits
 pub mod Domain
 pub mod Lists
+pub mod Options
 pub mod Parts
 pub mod Seq
 pub mod Spaces

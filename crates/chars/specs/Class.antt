@@ -15,6 +15,14 @@ use Rattle.chars.specs.declared.class.Class.the-variants.{Any, Atom, Dig
 unfoldable pub between : ℕ → ℕ → ℕ → Bool
 between lo hi b = leb lo b && leb b hi
 
+-- the highest code of an ASCII character
+abbrev pub highestCode : ℕ
+highestCode = 127
+
+-- RFC 822's CHAR: "any ASCII character", 0 to 127
+unfoldable pub isChar : ℕ → Bool
+isChar b = leb b highestCode
+
 -- a letter: A to Z and a to z, and no byte over 127
 unfoldable pub isLetter : ℕ → Bool
 unfolding between
@@ -72,10 +80,15 @@ unfoldable pub isQuotable : ℕ → Bool
 unfolding isPrintable
 isQuotable b = isPrintable b || eqb b 36
 
+-- RFC 822's specials: ( ) < > @ , ; : \ " . [ ]
+abbrev pub isSpecial : ℕ → Bool
+unfolding bytes member
+isSpecial b = member b (bytes "()<>@,;:\\\".[]")
+
 -- RFC 822's atoms are of "any CHAR except specials, SPACE and CTLs": bytes 33 to 126 without the specials
 unfoldable pub isAtomChar : ℕ → Bool
 unfolding bytes member between
-isAtomChar b = between 33 126 b && not (member b (bytes "()<>@,;:\\\".[]"))
+isAtomChar b = between 33 126 b && not (isSpecial b)
 
 -- what a domain part is made of: "letters, digits and inner hyphens"; where a hyphen may stand is `isDomainPart`'s to say
 unfoldable pub isLabelChar : ℕ → Bool

@@ -8,7 +8,11 @@ use lib.ListN.{length}
 use Rattle.chars.specs.Lists.{all, first, last}
 use Rattle.chars.specs.Class.{isLabelChar}
 
+-- the most bytes that a domain part has
+abbrev pub longestPart : ℕ
+longestPart = 63
+
 -- document 01: "domain part": "1 to 63 letters, digits and inner hyphens"
 unfoldable pub isDomainPart : List ℕ → Bool
 unfolding all first last isLabelChar
-isDomainPart s = leb 1 (length s) && leb (length s) 63 && all isLabelChar s && not (eqb (first s) 45) && not (eqb (last s) 45)
+isDomainPart s = leb 1 (length s) && leb (length s) longestPart && all isLabelChar s && not (eqb (first s) 45) && not (eqb (last s) 45)

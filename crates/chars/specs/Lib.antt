@@ -1,5 +1,6 @@
 pub mod Case
 pub mod Class
+pub mod Digits
 pub mod Domain
 pub mod Lists
 pub mod Parts

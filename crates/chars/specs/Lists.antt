@@ -5,6 +5,7 @@ use Prim.Native.Char.{code}
 use Prim.Native.String.{String, [] as empty, _∷_ as _then_}
 use mathlib.Core.Bool.{Bool, true, false, _&&_, _||_}
 use mathlib.Core.List.{List, [], _∷_}
+use mathlib.Core.Option.{Option, none, some}
 use lib.Dec.{eqb}
 
 -- the bytes of a text of ASCII characters, so that a definition can quote document 01
@@ -35,3 +36,8 @@ unfoldable pub last : List ℕ → ℕ
 last [] = 0
 last (x ∷ []) = x
 last (x ∷ y ∷ s) = last (y ∷ s)
+
+-- one more byte in front of a text, where there is one
+unfoldable pub onto : ℕ → Option (List ℕ) → Option (List ℕ)
+onto b none = none
+onto b (some s) = some (b ∷ s)

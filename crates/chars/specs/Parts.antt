@@ -1,11 +1,11 @@
--- A text as parts between separators: split, join, the places of the parts, and texts whose parts are all of a class.
+-- A text as parts between separators: split, join, the place of a part, and texts whose parts are all of a class.
 -- Assumes nothing.
-use Prim.Native.Nat.{ℕ, zero, suc, _+_}
-use mathlib.Core.Bool.{Bool, true, false, _&&_, cond}
+use Prim.Native.Nat.{ℕ, zero, suc}
+use mathlib.Core.Bool.{Bool, false, _&&_, _||_, cond}
 use mathlib.Core.List.{List, [], _∷_, _++_}
 use lib.Dec.{eqb}
-use lib.ListN.{length, take, drop}
-use Rattle.chars.specs.Lists.{all, nonEmpty}
+use lib.ListN.{take, drop}
+use Rattle.chars.specs.Lists.{all, first, nonEmpty}
 use Rattle.chars.specs.Class.{isAtomChar}
 
 -- one more byte in front of the first part
@@ -35,11 +35,6 @@ pub record Place : Type 0 where
   pub start : ℕ
   pub size : ℕ
 
--- the places of parts in the text that has them one after the other from i on, a separator between each two
-unfoldable pub placesFrom : ℕ → List (List ℕ) → List Place
-placesFrom i [] = []
-placesFrom i (p ∷ ps) = record { start = i; size = length p } ∷ placesFrom (suc (i + length p)) ps
-
 -- what stands at a place of a text
 unfoldable pub at : List ℕ → Place → List ℕ
 at s p = take (p .size) (drop (p .start) s)
@@ -53,6 +48,12 @@ isPart p s = nonEmpty s && all p s
 unfoldable pub isParted : ℕ → (ℕ → Bool) → List ℕ → Bool
 unfolding all split isPart
 isParted sep p s = all (isPart p) (split sep s)
+
+-- two separators stand side by side
+unfoldable pub sideBySide : ℕ → List ℕ → Bool
+unfolding first
+sideBySide sep [] = false
+sideBySide sep (x ∷ s) = eqb x sep && eqb (first s) sep || sideBySide sep s
 
 -- document 01: "atoms joined by single dots"
 unfoldable pub isAtoms : List ℕ → Bool

@@ -3,6 +3,9 @@ ghost use mathlib.Core.Path.{_≡_};
 ghost use Rattle.chars.specs.Class.{isAtomChar, isDigit, isIn, isLabelChar, isLetter, isPrintable, isQuotable, PrintableIsTheList};
 ghost use Rattle.chars.specs.Lists.{all};
 
+// The highest code of an ASCII character.
+pub const HIGHEST_CODE: u8 = 127;
+
 // A class by its name, for the loops that test a whole string.
 pub enum Class {
     Letter,

@@ -81,6 +81,9 @@ pub fn is_text(s: &[u8]) -> bool
     is_parted(s, b' ', Class::Printable)
 }
 
+// The most bytes that a domain part has.
+pub const LONGEST_PART: usize = 63;
+
 // Whether `s` is a domain part: 1 to 63 letters, digits and inner hyphens.
 pub fn is_domain_part(s: &[u8]) -> bool
     ensures { λ r. ⌜ r ≡ isDomainPart (now (s .entry)) ⌝ }
@@ -89,7 +92,7 @@ pub fn is_domain_part(s: &[u8]) -> bool
     if n == 0 {
         return false;
     }
-    if 63 < n {
+    if LONGEST_PART < n {
         return false;
     }
     if s[0] == b'-' {

@@ -2,14 +2,14 @@
 -- Assumes nothing.
 use mathlib.Core.Path.{_≡_}
 use Prim.Native.Nat.{ℕ, _+_, _≤_}
-use mathlib.Core.Bool.{_&&_, cond}
+use mathlib.Core.Bool.{cond}
 use mathlib.Core.List.{List}
 use mathlib.Core.Option.{Option, none, some}
 use lib.Dec.{eqb, ltb}
 use lib.ListN.{length, take, drop, getD}
-use Rattle.chars.specs.Class.{isDigit}
+use Rattle.chars.specs.Lists.{onto}
 use Rattle.chars.specs.Write.{front}
-use Rattle.mailaddr.specs.Code.{charOf, decoded, numberOf, onto}
+use Rattle.mailaddr.specs.Code.{charOf, decoded, longestCodedChar}
 use Rattle.mailaddr.specs.Shape.{Address, longestAddress, shapeOf, unquotedLocal}
 use Rattle.mailaddr.specs.declared.code.Coded.{Coded}
 use Rattle.mailaddr.specs.declared.code.Decoded.{Decoded}
@@ -26,12 +26,6 @@ pub data Shaping : Type 0 where
   tooLong : Shaping
   noShape : Shaping
   shaped : Address → Shaping
-
--- document 01's number for each
-abbrev pub shapingNumber : Shaping → ℕ
-shapingNumber tooLong = 2
-shapingNumber noShape = 1
-shapingNumber (shaped a) = 0
 
 unfoldable pub fromShape : Option Address → Shaping
 fromShape none = noShape
@@ -62,18 +56,13 @@ closingAnswer Never = none
 
 -- a coded character has the bytes of the text
 pub record Spelt (c : Coded) (text : List ℕ) : Type 0 where
-  pub fits : c .len ≤ 5
+  pub fits : c .len ≤ longestCodedChar
   pub holds : take (c .len) (c .bytes) ≡ text
 
 -- behind an opening parenthesis: the character of a letter and a closing one, 0 where these do not follow
 unfoldable pub letterGroup : List ℕ → ℕ
 unfolding charOf
 letterGroup s = cond (eqb (getD s 1 0) 41) (charOf (getD s 0 0)) 0
-
--- the number of three digits, 999 where these do not follow
-unfoldable pub threeDigits : List ℕ → ℕ
-unfolding isDigit numberOf
-threeDigits s = cond (isDigit (getD s 0 0) && isDigit (getD s 1 0) && isDigit (getD s 2 0)) (numberOf s) 999
 
 -- what a text decodes to that begins with a group
 unfoldable pub fromGroup : Group → List ℕ → Option (List ℕ)
@@ -82,7 +71,7 @@ fromGroup g s = cond (eqb (g .len) 0) none (onto (g .char) (decoded (drop (g .le
 
 -- the text begins with the group, or does not decode
 pub record Grouped (s : List ℕ) (g : Group) : Type 0 where
-  pub fits : g .len ≤ 5
+  pub fits : g .len ≤ longestCodedChar
   pub holds : decoded s ≡ fromGroup g s
 
 -- decoding a text into a buffer: the decoded text at its front, and the rest as before; or that it does not decode

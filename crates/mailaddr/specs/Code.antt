@@ -1,14 +1,15 @@
 -- Document 01, "carried whole" and "A carrier": the coding of a whole address as a DD value, and its decoding.
 -- Assumes nothing.
-use Prim.Native.Nat.{ℕ, zero, suc, _+_, _-_, _*_, _/_, _%_}
-use mathlib.Core.Bool.{Bool, true, false, _&&_, _||_, not, cond}
+use Prim.Native.Nat.{ℕ, zero, suc, _+_, _/_, _%_}
+use mathlib.Core.Bool.{Bool, false, _&&_, not, cond}
 use mathlib.Core.List.{List, [], _∷_, _++_}
 use mathlib.Core.Option.{Option, none, some}
-use lib.Dec.{leb, ltb, eqb}
-use lib.ListN.{length, getD}
-use Rattle.chars.specs.Lists.{bytes}
-use Rattle.chars.specs.Class.{isDigit, isPrintable}
+use lib.Dec.{eqb}
+use lib.ListN.{getD}
+use Rattle.chars.specs.Lists.{bytes, onto}
+use Rattle.chars.specs.Class.{isPrintable}
 use Rattle.chars.specs.Case.{foldCase}
+use Rattle.chars.specs.Digits.{digitsNumber, isNumberGroup}
 
 -- document 01: "`(a)` @, `(p)` %, `(b)` !, `(q)` quote, `(u)` _, `(l)` and `(r)` the parentheses": the letters, and beside each the
 -- character that it stands for
@@ -39,6 +40,10 @@ charOf l = getD groupChars (indexOf (foldCase l) groupLetters) 0
 unfoldable pub numbered : ℕ → List ℕ
 numbered b = 40 ∷ (48 + b / 100) ∷ (48 + b / 10 % 10) ∷ (48 + b % 10) ∷ 41 ∷ []
 
+-- the most bytes that a character is coded by
+abbrev pub longestCodedChar : ℕ
+longestCodedChar = 5
+
 -- a character as it is coded: by its letter, as itself where the set has it, else by its number. A space is itself, but "the second
 -- and later of a run of spaces is `(032)` (house rule)".
 unfoldable pub codedChar : Bool → ℕ → List ℕ
@@ -59,38 +64,28 @@ unfoldable pub coded : List ℕ → List ℕ
 unfolding codedFrom
 coded s = codedFrom false s
 
--- ---- decoding
+-- texts from this length on are not coded, so that the lengths of what is coded can be counted
+abbrev pub tooLongToCode : ℕ
+tooLongToCode = 65536
 
--- one more character in front of what was decoded, if it was
-unfoldable pub onto : ℕ → Option (List ℕ) → Option (List ℕ)
-onto b none = none
-onto b (some s) = some (b ∷ s)
+-- ---- decoding
 
 -- behind an opening parenthesis: a letter and a closing one
 unfoldable pub isLetterGroup : List ℕ → Bool
 unfolding charOf
 isLetterGroup s = eqb (getD s 1 0) 41 && not (eqb (charOf (getD s 0 0)) 0)
 
--- three digits and a closing one, "numbers 000 to 127"
-unfoldable pub numberOf : List ℕ → ℕ
-numberOf s = (getD s 0 0 - 48) * 100 + (getD s 1 0 - 48) * 10 + (getD s 2 0 - 48)
-
-unfoldable pub isNumberGroup : List ℕ → Bool
-unfolding isDigit numberOf
-isNumberGroup s =
-    isDigit (getD s 0 0) && isDigit (getD s 1 0) && isDigit (getD s 2 0) && eqb (getD s 3 0) 41 && leb (numberOf s) 127
-
--- the decoding of a text, its first k characters being passed over; "a value with a parenthesis outside such groups does not
--- decode"
+-- the decoding of a text, its first k characters being passed over: a group is a letter's, or three digits and a closing parenthesis,
+-- "numbers 000 to 127"; "a value with a parenthesis outside such groups does not decode"
 unfoldable pub decodedAfter : ℕ → List ℕ → Option (List ℕ)
-unfolding onto isLetterGroup charOf isNumberGroup numberOf
+unfolding onto isLetterGroup charOf isNumberGroup digitsNumber
 decodedAfter zero [] = some []
 decodedAfter (suc k) [] = some []
 decodedAfter (suc k) (x ∷ s) = decodedAfter k s
 decodedAfter zero (x ∷ s) =
     cond (eqb x 40)
     (cond (isLetterGroup s) (onto (charOf (getD s 0 0)) (decodedAfter 2 s))
-    (cond (isNumberGroup s) (onto (numberOf s) (decodedAfter 4 s)) none))
+    (cond (isNumberGroup 41 s) (onto (digitsNumber s) (decodedAfter 4 s)) none))
     (cond (eqb x 41) none (onto x (decodedAfter 0 s)))
 
 unfoldable pub decoded : List ℕ → Option (List ℕ)

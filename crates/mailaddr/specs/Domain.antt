@@ -2,7 +2,7 @@
 -- Assumes nothing.
 use Prim.Native.Nat.{ℕ}
 use mathlib.Core.Bool.{Bool}
-use mathlib.Core.List.{List, [], _∷_, _++_, reverse}
+use mathlib.Core.List.{List, _∷_, _++_, reverse}
 use Rattle.chars.specs.Lists.{all}
 use Rattle.chars.specs.Domain.{isDomainPart}
 use Rattle.chars.specs.Parts.{join, split}

@@ -1,7 +1,7 @@
 -- Document 01: "Given two domains, the tail they share by whole parts, case aside, is shown inside the first".
 -- Assumes nothing.
 use Prim.Native.Nat.{ℕ, zero, suc}
-use mathlib.Core.Bool.{Bool, cond}
+use mathlib.Core.Bool.{cond}
 use mathlib.Core.List.{List, [], _∷_}
 use lib.ListN.{take}
 use Rattle.chars.specs.Case.{sameText}

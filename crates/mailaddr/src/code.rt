@@ -1,14 +1,15 @@
 // A whole address coded as the value of a DD, and decoded again.
 use chars::case::fold_case;
-use chars::class::is_digit;
 use chars::class::is_printable;
+use chars::digits::HIGHEST_NUMBER;
+use chars::digits::number_at;
 use chars::parts::byte_at;
 ghost use mathlib.Core.Path.{_≡_};
-ghost use Prim.Native.Nat.{_≤_, _<_};
+ghost use Prim.Native.Nat.{_*_, _≤_, _<_};
 ghost use lib.ListN.{length, take, drop};
 ghost use Rattle.chars.specs.Write.{Wrote, front};
-ghost use Rattle.mailaddr.specs.Answers.{Decoding, Grouped, Spelt, letterGroup, threeDigits};
-ghost use Rattle.mailaddr.specs.Code.{charOf, coded, codedChar, letterOf, numbered};
+ghost use Rattle.mailaddr.specs.Answers.{Decoding, Grouped, Spelt, letterGroup};
+ghost use Rattle.mailaddr.specs.Code.{charOf, coded, codedChar, letterOf, longestCodedChar, numbered, tooLongToCode};
 
 // The letter of a character that is coded by one, 0 for any other.
 fn letter_of(b: u8) -> u8
@@ -91,10 +92,10 @@ fn code_char(spaced: bool, b: u8) -> Coded
 }
 
 // Writes as many of the first `n` of `bytes` as there is room for, and returns where the next would go, room or none;
-// `at` is at most five for each byte of a text of less than 65536.
+// `at` is at most what a text of `tooLongToCode` characters takes.
 fn put_some(dst: &mut [u8], at: usize, bytes: [u8; 5], n: usize) -> usize
-    requires { ⌜ n ≤ 5 ⌝ }
-    requires { ⌜ at ≤ 327680 ⌝ }
+    requires { ⌜ n ≤ longestCodedChar ⌝ }
+    requires { ⌜ at ≤ longestCodedChar * tooLongToCode ⌝ }
     ensures { λ r. ⌜ Wrote (now (dst .entry)) at (take n bytes) r (now (dst .exit)) ⌝ }
 {
     let mut i = 0;
@@ -110,7 +111,7 @@ fn put_some(dst: &mut [u8], at: usize, bytes: [u8; 5], n: usize) -> usize
 
 // Writes the coded form of a text to the front of `dst` while there is room, and returns its whole length.
 pub fn put_coded(dst: &mut [u8], s: &[u8]) -> usize
-    requires { ⌜ length (now s) < 65536 ⌝ }
+    requires { ⌜ length (now s) < tooLongToCode ⌝ }
     ensures { λ r. ⌜ r ≡ length (coded (now (s .entry))) ⌝ }
     ensures { λ _. ⌜ now (dst .exit) ≡ front (take (length (now (dst .entry))) (coded (now (s .entry)))) (now (dst .entry)) ⌝ }
 {
@@ -153,26 +154,6 @@ fn letter_at(s: &[u8], at: usize) -> u8
     char_of(byte_at(s, at))
 }
 
-// The number that three digits at a place spell, 999 where these do not stand there.
-fn number_at(s: &[u8], at: usize) -> u16
-    requires { ⌜ at ≤ length (now s) ⌝ }
-    ensures { λ r. ⌜ r ≡ threeDigits (drop at (now (s .entry))) ⌝ }
-{
-    let a = byte_at(s, at);
-    let b = byte_at(s, at + 1);
-    let c = byte_at(s, at + 2);
-    if !is_digit(a) {
-        return 999;
-    }
-    if !is_digit(b) {
-        return 999;
-    }
-    if !is_digit(c) {
-        return 999;
-    }
-    (a - b'0') as u16 * 100 + (b - b'0') as u16 * 10 + (c - b'0') as u16
-}
-
 // The group at a place.
 fn group_at(s: &[u8], at: usize) -> Group
     requires { ⌜ at < length (now s) ⌝ }
@@ -193,7 +174,7 @@ fn group_at(s: &[u8], at: usize) -> Group
         return Group { char: 0, len: 0 };
     }
     let n = number_at(s, at + 1);
-    if 127 < n {
+    if HIGHEST_NUMBER < n {
         return Group { char: 0, len: 0 };
     }
     Group {

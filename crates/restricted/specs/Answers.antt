@@ -2,15 +2,15 @@
 -- Assumes nothing.
 use mathlib.Core.Path.{_≡_}
 use Prim.Native.Nat.{ℕ, _≤_}
-use mathlib.Core.Bool.{true, false, _&&_, cond}
+use mathlib.Core.Bool.{true, false, cond}
 use mathlib.Core.List.{List, [], _∷_}
 use mathlib.Core.Option.{Option, none, some}
 use lib.Dec.{eqb, ltb}
 use lib.ListN.{length, drop, getD}
-use Rattle.chars.specs.Class.{isDigit}
-use Rattle.chars.specs.Lists.{all}
+use Rattle.chars.specs.Class.{isChar}
+use Rattle.chars.specs.Lists.{all, onto}
 use Rattle.chars.specs.Write.{TextResult}
-use Rattle.restricted.specs.Code.{charOf, coded, isChar, numberOf, numbered, onto, parse}
+use Rattle.restricted.specs.Code.{charOf, coded, longestCodedChar, numbered, parse}
 use Rattle.restricted.specs.declared.code.Coding.{Coding}
 use Rattle.restricted.specs.declared.code.Coding.the-variants.{Single, Number, Short}
 use Rattle.restricted.specs.declared.convert.RestrictedAnswer.{RestrictedAnswer}
@@ -51,11 +51,6 @@ unfoldable pub shortGroup : List ℕ → ℕ
 unfolding charOf
 shortGroup s = cond (eqb (getD s 1 0) 35) (charOf (getD s 0 0)) 0
 
--- the number of three digits, 999 where these do not follow
-unfoldable pub threeDigits : List ℕ → ℕ
-unfolding isDigit numberOf
-threeDigits s = cond (isDigit (getD s 0 0) && isDigit (getD s 1 0) && isDigit (getD s 2 0)) (numberOf s) 999
-
 -- what a text stands for that begins with a group
 unfoldable pub fromGroup : Group → List ℕ → Option (List ℕ)
 unfolding onto parse
@@ -63,7 +58,7 @@ fromGroup g s = cond (eqb (g .len) 0) none (onto (g .char) (parse (drop (g .len)
 
 -- the text begins with the group, which has no byte over 127; or it does not parse
 pub record Grouped (s : List ℕ) (g : Group) : Type 0 where
-  pub fits : g .len ≤ 5
+  pub fits : g .len ≤ longestCodedChar
   pub holds : parse s ≡ fromGroup g s
   pub chars : (g .len ≡ 0 → ⊥) → all isChar s ≡ all isChar (drop (g .len) s)
 

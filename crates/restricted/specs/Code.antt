@@ -1,35 +1,28 @@
 -- Request 9: RFC 1137 (document 004), section 2. Which characters stand for themselves, the short forms, the coding of a character and of a
 -- text, and the parsing of coded text, each from the grammar there, whose lines are quoted.
 -- Assumes nothing.
-use Prim.Native.Nat.{ℕ, zero, suc, _+_, _-_, _*_, _/_, _%_}
+use Prim.Native.Nat.{ℕ, zero, suc, _+_, _/_, _%_}
 use Prim.Native.String.{String}
 use mathlib.Core.Bool.{Bool, _&&_, _||_, not, cond}
 use mathlib.Core.List.{List, [], _∷_, _++_}
 use mathlib.Core.Option.{Option, none, some}
 use lib.Dec.{eqb, leb}
 use lib.ListN.{getD}
-use Rattle.chars.specs.Lists.{bytes, member}
+use Rattle.chars.specs.Lists.{bytes, member, onto}
 use Rattle.chars.specs.Case.{foldCase}
-use Rattle.chars.specs.Class.{isDigit}
+use Rattle.chars.specs.Class.{isSpecial}
+unfoldable pub use Rattle.chars.specs.Class.{isChar}
+use Rattle.chars.specs.Digits.{digitsNumber, isNumberGroup}
 
 -- ---- characters
-
--- RFC 822's CHAR: "any ASCII character", 0 to 127
-unfoldable pub isChar : ℕ → Bool
-isChar b = leb b 127
 
 -- RFC 822's CTL: "any ASCII control character and DEL", 0 to 31 and 127
 unfoldable pub isControl : ℕ → Bool
 isControl b = leb b 31 || eqb b 127
 
--- RFC 822's specials: ( ) < > @ , ; : \ " . [ ]
-unfoldable pub isSpecial : ℕ → Bool
-unfolding bytes member
-isSpecial b = member b (bytes "()<>@,;:\\\".[]")
-
 -- "a-char = <any CHAR except specials (other than "@" and "."), SPACE, CTL, "_", and "#">"
 unfoldable pub isPlain : ℕ → Bool
-unfolding isChar isControl isSpecial
+unfolding isChar isControl bytes member
 isPlain b =
     isChar b
     && not (isSpecial b && not (eqb b 64) && not (eqb b 46))
@@ -76,6 +69,10 @@ charOf l = charIn (foldCase l) shortForms
 unfoldable pub numbered : ℕ → List ℕ
 numbered b = 35 ∷ (48 + b / 100) ∷ (48 + b / 10 % 10) ∷ (48 + b % 10) ∷ 35 ∷ []
 
+-- the most bytes that a character is coded by
+abbrev pub longestCodedChar : ℕ
+longestCodedChar = 5
+
 -- "all EBNF.a-char are used directly and all other CHAR are encoded as EBNF.a-encoded-char"; request 9: "Whatever must be coded takes its
 -- short form if it has one". The short form of a space is the first of them: "a-encoded-char = "_" ; (space)".
 unfoldable pub codeChar : ℕ → List ℕ
@@ -98,23 +95,10 @@ unfoldable pub isShortGroup : List ℕ → Bool
 unfolding charOf
 isShortGroup s = not (eqb (charOf (getD s 0 0)) 0) && eqb (getD s 1 0) 35
 
--- three digits that "must have range 0-127", and a "#"
-unfoldable pub numberOf : List ℕ → ℕ
-numberOf s = (getD s 0 0 - 48) * 100 + (getD s 1 0 - 48) * 10 + (getD s 2 0 - 48)
-
-unfoldable pub isNumberGroup : List ℕ → Bool
-unfolding isDigit numberOf
-isNumberGroup s =
-    isDigit (getD s 0 0) && isDigit (getD s 1 0) && isDigit (getD s 2 0) && eqb (getD s 3 0) 35 && leb (numberOf s) 127
-
--- one more character in front of what the rest stands for, if it parses
-unfoldable pub onto : ℕ → Option (List ℕ) → Option (List ℕ)
-onto b none = none
-onto b (some s) = some (b ∷ s)
-
--- "atom-encoded = *( a-char / a-encoded-char )": what a text stands for, its first k characters being passed over
+-- "atom-encoded = *( a-char / a-encoded-char )": what a text stands for, its first k characters being passed over. A number
+-- is three digits that "must have range 0-127", and a "#".
 unfoldable pub parsedAfter : ℕ → List ℕ → Option (List ℕ)
-unfolding isPlain isShortGroup charOf isNumberGroup numberOf onto
+unfolding isPlain isShortGroup charOf isNumberGroup digitsNumber onto
 parsedAfter zero [] = some []
 parsedAfter (suc k) [] = some []
 parsedAfter (suc k) (x ∷ s) = parsedAfter k s
@@ -122,7 +106,7 @@ parsedAfter zero (x ∷ s) =
     cond (isPlain x) (onto x (parsedAfter 0 s))
     (cond (eqb x 95) (onto 32 (parsedAfter 0 s))
     (cond (eqb x 35 && isShortGroup s) (onto (charOf (getD s 0 0)) (parsedAfter 2 s))
-    (cond (eqb x 35 && isNumberGroup s) (onto (numberOf s) (parsedAfter 4 s)) none)))
+    (cond (eqb x 35 && isNumberGroup 35 s) (onto (digitsNumber s) (parsedAfter 4 s)) none)))
 
 unfoldable pub parse : List ℕ → Option (List ℕ)
 unfolding parsedAfter

@@ -3,9 +3,10 @@
 use Prim.Native.Nat.{ℕ}
 use mathlib.Core.Bool.{cond}
 use mathlib.Core.List.{List}
+use Rattle.chars.specs.Class.{isChar}
 use Rattle.chars.specs.Lists.{all}
 use Rattle.chars.specs.Write.{TextResult, placedText, refusedText}
-use Rattle.restricted.specs.Code.{coded, decoded, isChar}
+use Rattle.restricted.specs.Code.{coded, decoded}
 
 unfoldable pub restrictText : List ℕ → List ℕ → TextResult
 unfolding all isChar refusedText placedText coded

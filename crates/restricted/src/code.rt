@@ -1,14 +1,16 @@
 // A text coded: how a character is, what the whole takes, and the writing of it.
 use crate::convert::RestrictedAnswer;
+use chars::class::HIGHEST_CODE;
 use chars::write::put;
 ghost use mathlib.Core.Path.{_≡_};
 ghost use mathlib.Core.List.{[], _∷_};
 ghost use Prim.Native.Nat.{_+_, _≤_};
 ghost use lib.ListN.{length, drop};
+ghost use Rattle.chars.specs.Class.{isChar};
 ghost use Rattle.chars.specs.Lists.{all};
 ghost use Rattle.chars.specs.Write.{Wrote};
 ghost use Rattle.restricted.specs.Answers.{codedAnswer, shortAnswer, spelled};
-ghost use Rattle.restricted.specs.Code.{codeChar, coded, isChar, isPlain, numbered};
+ghost use Rattle.restricted.specs.Code.{codeChar, coded, isPlain, numbered};
 
 // Whether a character stands for itself. Letters, which most texts are made of, come first.
 pub(crate) fn is_plain(b: u8) -> bool
@@ -82,7 +84,7 @@ pub(crate) fn all_chars(s: &[u8], from: usize) -> bool
 {
     let mut i = from;
     while i < s.len() {
-        if 127 < s[i] {
+        if HIGHEST_CODE < s[i] {
             return false;
         }
         i += 1;
@@ -109,7 +111,7 @@ pub(crate) fn judge_coded(s: &[u8], room: usize) -> RestrictedAnswer
     let mut i = 0;
     while i < s.len() {
         let b = s[i];
-        if 127 < b {
+        if HIGHEST_CODE < b {
             return RestrictedAnswer::ByteOver127;
         }
         let n = coded_size(b);

@@ -2,7 +2,8 @@
 use crate::code::all_chars;
 use crate::code::is_plain;
 use chars::case::fold_case;
-use chars::class::is_digit;
+use chars::digits::HIGHEST_NUMBER;
+use chars::digits::number_at;
 use chars::parts::byte_at;
 ghost use mathlib.Core.Path.{_≡_};
 ghost use mathlib.Core.List.{_∷_};
@@ -10,7 +11,7 @@ ghost use mathlib.Core.Option.{some};
 ghost use Prim.Native.Nat.{_≤_, _<_};
 ghost use lib.ListN.{length, drop};
 ghost use Rattle.chars.specs.Write.{Wrote};
-ghost use Rattle.restricted.specs.Answers.{Grouped, Measured, shortGroup, threeDigits, unparsedAnswer};
+ghost use Rattle.restricted.specs.Answers.{Grouped, Measured, shortGroup, unparsedAnswer};
 ghost use Rattle.restricted.specs.Code.{charOf, decoded, parse};
 
 // The character that a letter stands for between two `#`, 0 for any other.
@@ -43,26 +44,6 @@ fn short_at(s: &[u8], at: usize) -> u8
     char_of(byte_at(s, at))
 }
 
-// The number that three digits at a place spell, 999 where these do not stand there.
-fn number_at(s: &[u8], at: usize) -> u16
-    requires { ⌜ at ≤ length (now s) ⌝ }
-    ensures { λ r. ⌜ r ≡ threeDigits (drop at (now (s .entry))) ⌝ }
-{
-    let a = byte_at(s, at);
-    let b = byte_at(s, at + 1);
-    let c = byte_at(s, at + 2);
-    if !is_digit(a) {
-        return 999;
-    }
-    if !is_digit(b) {
-        return 999;
-    }
-    if !is_digit(c) {
-        return 999;
-    }
-    (a - b'0') as u16 * 100 + (b - b'0') as u16 * 10 + (c - b'0') as u16
-}
-
 // A character, and how many bytes it is coded by; 0 of them where what stands there does not parse.
 struct Group {
     char: u8,
@@ -82,7 +63,7 @@ fn behind_hash(s: &[u8], at: usize) -> Group
         return Group { char: 0, len: 0 };
     }
     let n = number_at(s, at);
-    if 127 < n {
+    if HIGHEST_NUMBER < n {
         return Group { char: 0, len: 0 };
     }
     Group {

@@ -8,7 +8,7 @@ use native.Mathlib.Nat.{suc-inj, suc-ne-zero}
 use native.Mathlib.Numerals.{add-one}
 use native.Mathlib.Omega.{arith}
 use lib.Dec.{eqb, leb}
-use lib.ListN.{length, getD, take, drop, length-map, drop-of-length-le}
+use lib.ListN.{length, getD, drop, length-map, drop-of-length-le}
 use lib.Seq.{drop-cons}
 use borrow.Author.Tests.{eq-eqb, eqb-true, leb-true, leb-false, le-leb, lt-leb}
 use Rattle.chars.specs.Lists.{all, bytes, first, last, member}
@@ -40,7 +40,7 @@ by-capital b f g =
     (λ l. by-test (leb b 90) (λ h. f (leb-true 65 b l) (leb-true b 90 h)) (λ h. g (fold-high b (leb-false b 90 h))))
     (λ l. g (fold-low b (leb-false 65 b l)))
 
-pub fold-fold : (b : ℕ) → foldCase (foldCase b) ≡ foldCase b
+fold-fold : (b : ℕ) → foldCase (foldCase b) ≡ foldCase b
 fold-fold b =
     by-capital b
     (λ l h. rw (fold-capital b l h) (fold-high (b + 32) (omega arith)))
@@ -71,18 +71,6 @@ pub fold-append : (s t : List ℕ) → foldText (s ++ t) ≡ foldText s ++ foldT
 unfolding foldText
 fold-append [] t = refl
 fold-append (x ∷ s) t = rw (fold-append s t)
-
-pub fold-take : (n : ℕ) (s : List ℕ) → foldText (take n s) ≡ take n (foldText s)
-unfolding foldText
-fold-take zero s = refl
-fold-take (suc n) [] = refl
-fold-take (suc n) (x ∷ s) = rw (fold-take n s)
-
-pub fold-drop : (n : ℕ) (s : List ℕ) → foldText (drop n s) ≡ drop n (foldText s)
-unfolding foldText
-fold-drop zero s = refl
-fold-drop (suc n) [] = refl
-fold-drop (suc n) (x ∷ s) = fold-drop n s
 
 pub length-fold : (s : List ℕ) → length (foldText s) ≡ length s
 unfolding foldText
@@ -214,10 +202,3 @@ same-trans s t u h k = same-of s u (same-path s t h ∙ same-path t u k)
 pub same-length : (s t : List ℕ) → sameText s t ≡ true → length s ≡ length t
 unfolding sameText
 same-length s t h = agree-length sameByte s t h
-
-pub equal-same : (s t : List ℕ) → equalText s t ≡ true → sameText s t ≡ true
-equal-same s t h = same-of s t (ap foldText (equal-path s t h))
-
--- texts that are equal case aside are of the same classes
-pub same-all : (k : Class) (s t : List ℕ) → sameText s t ≡ true → all (isIn k) s ≡ all (isIn k) t
-same-all k s t h = sym (all-fold k s) ∙ ap (all (isIn k)) (same-path s t h) ∙ all-fold k t

@@ -8,9 +8,9 @@ use Prim.Native.Nat.{ℕ, zero, suc, _+_, _≤_, _<_, zero-le}
 use native.Mathlib.Nat.{eq-or-lt-of-le}
 use native.Mathlib.Omega.{arith}
 use lib.Dec.{T, leb, eqb}
-use borrow.Author.Tests.{eqb-true, leb-true}
+use borrow.Author.Tests.{eqb-true, le-leb, leb-true, lt-leb}
 use Rattle.chars.specs.Lists.{all, bytes, member}
-use Rattle.chars.specs.Class.{between, inOneOf, isAtomChar, isDigit, isLabelChar, isLetter, isPrintable, printableList, printableRanges, PrintableIsTheList, Range}
+use Rattle.chars.specs.Class.{between, highestCode, inOneOf, isAtomChar, isChar, isDigit, isLabelChar, isLetter, isPrintable, isSpecial, printableList, printableRanges, PrintableIsTheList, Range}
 use Rattle.chars.proofs.Laws.Lists.{and-left, and-right, or-cases}
 
 -- ---- on a range
@@ -44,6 +44,28 @@ on-range-but r p q lo n t b l h e =
     let f : (r b || Bool·beq (p b) (q b)) ≡ true = on-range (λ b. r b || Bool·beq (p b) (q b)) (λ _. true) lo n t b l h in
     beq-path (p b) (q b) (subst⁻¹ T (rw e at f) tt)
 
+-- ---- ASCII
+
+pub is-char : (b : ℕ) → b ≤ highestCode → isChar b ≡ true
+unfolding isChar
+is-char b h = le-leb b highestCode h
+
+pub no-char : (b : ℕ) → highestCode < b → isChar b ≡ false
+unfolding isChar
+no-char b h = lt-leb b highestCode h
+
+pub char-most : (b : ℕ) → isChar b ≡ true → b ≤ highestCode
+unfolding isChar
+char-most b h = leb-true b highestCode h
+
+-- two tests are the same at each ASCII character where they are computed to be
+pub at-char : (p q : ℕ → Bool) → T (matches p q 0 128) → (b : ℕ) → isChar b ≡ true → p b ≡ q b
+at-char p q t b h = on-range p q 0 128 t b zero-le (omega (arith, char-most b h))
+
+-- the same, but for the characters at which r passes
+pub at-char-but : (r p q : ℕ → Bool) → T (matches (λ b. r b || Bool·beq (p b) (q b)) (λ _. true) 0 128) → (b : ℕ) → isChar b ≡ true → r b ≡ false → p b ≡ q b
+at-char-but r p q t b h e = on-range-but r p q 0 128 t b zero-le (omega (arith, char-most b h)) e
+
 -- ---- the printable string set
 
 -- the ranges against the list: one test, computed over the 256 bytes
@@ -61,16 +83,19 @@ between-low : (lo hi b : ℕ) → between lo hi b ≡ true → lo ≤ b
 unfolding between
 between-low lo hi b e = leb-true lo b (and-left (leb lo b) (leb b hi) e)
 
-pub letter-below : (b : ℕ) → isLetter b ≡ true → b < 128
+letter-below : (b : ℕ) → isLetter b ≡ true → b < 128
 unfolding isLetter
 letter-below b e =
     or-cases (between 65 90 b) (between 97 122 b) e
     (λ h. omega (arith, between-high 65 90 b h))
     (λ h. omega (arith, between-high 97 122 b h))
 
-pub digit-below : (b : ℕ) → isDigit b ≡ true → b < 128
+pub digit-range : (b : ℕ) → isDigit b ≡ true → (48 ≤ b) × (b ≤ 57)
 unfolding isDigit
-digit-below b e = omega (arith, between-high 48 57 b e)
+digit-range b e = (between-low 48 57 b e, between-high 48 57 b e)
+
+pub digit-below : (b : ℕ) → isDigit b ≡ true → b < 128
+digit-below b e = omega (arith, digit-range b e .1)
 
 letter-digit-below : (b : ℕ) → (isLetter b || isDigit b) ≡ true → b < 128
 letter-digit-below b e = or-cases (isLetter b) (isDigit b) e (letter-below b) (digit-below b)
@@ -98,7 +123,7 @@ label-below b e =
 pub atom-range : (b : ℕ) → isAtomChar b ≡ true → (33 ≤ b) × (b ≤ 126)
 unfolding isAtomChar
 atom-range b e =
-    let h : between 33 126 b ≡ true = and-left (between 33 126 b) (not (member b (bytes "()<>@,;:\\\".[]"))) e in
+    let h : between 33 126 b ≡ true = and-left (between 33 126 b) (not (isSpecial b)) e in
     (between-low 33 126 b h, between-high 33 126 b h)
 
 -- ---- which class lies in which

@@ -1,8 +1,8 @@
 -- Laws of tests and of `all`, `first` and `last`, for any test and any list.
 -- Assumes nothing.
-use mathlib.Core.Path.{_≡_, refl, sym, _∙_}
-use mathlib.Core.Bool.{Bool, true, false, not, _&&_, _||_, true≢false, and-assoc, or-true}
-use mathlib.Core.List.{List, [], _∷_, _++_, map}
+use mathlib.Core.Path.{_≡_, refl, sym, ap, ap₂, _∙_}
+use mathlib.Core.Bool.{Bool, true, false, not, _&&_, _||_, true≢false, and-assoc, and-comm, and-true, or-true}
+use mathlib.Core.List.{List, [], _∷_, _++_, map, reverse, reverse-cons}
 use Prim.Native.Nat.{ℕ, zero, suc, _+_, _-_, _≤_, _<_, suc-le-suc}
 use native.Mathlib.Nat.{le-of-suc-le-suc, not-suc-le-zero, zero-lt-suc}
 use native.Mathlib.Omega.{arith}
@@ -10,7 +10,7 @@ use native.Mathlib.Numerals.{add-one}
 use lib.Dec.{eqb}
 use borrow.Author.Tests.{eqb-true, not-false, not-true}
 use lib.ListN.{length, getD, take, drop, drop-of-length-le}
-use lib.Seq.{drop-cons}
+use lib.Seq.{drop-cons, drop-drop, getD-drop}
 use Rattle.chars.specs.Lists.{all, first, last, member}
 
 -- ---- tests
@@ -59,6 +59,11 @@ passed {r} e h = sym e ∙ not-false r h
 
 pub failed : {r t : Bool} → r ≡ t → not r ≡ true → t ≡ false
 failed {r} e h = sym e ∙ not-true r h
+
+-- none of the two holds
+pub neither : (a b : Bool) → (a || b) ≡ false → (a ≡ false) × (b ≡ false)
+neither true b h = (h, true-not-false true refl h)
+neither false b h = (refl, h)
 
 -- (a and b) and (c and d), the other way round
 pub and-swap : (a b c d : Bool) → (a && b && (c && d)) ≡ (a && c && (b && d))
@@ -129,6 +134,32 @@ all-member p (x ∷ s) b h m =
     (λ e. rw (eqb-true b x e) (and-left (p x) (all p s) h))
     (λ e. all-member p s b (and-right (p x) (all p s) h) e)
 
+-- a byte that differs from all is no member
+pub all-no-member : (b : ℕ) (s : List ℕ) → all (λ x. not (eqb b x)) s ≡ not (member b s)
+unfolding all member
+all-no-member b [] = refl
+all-no-member b (x ∷ s) = by-test (eqb b x) (λ e. rw e) (λ e. rw e (all-no-member b s))
+
+-- the first byte, and the first two, where 0 passes the test
+all-head : (p : ℕ → Bool) → p 0 ≡ true → (s : List ℕ) → all p s ≡ (p (getD s 0 0) && all p (drop 1 s))
+unfolding all
+all-head p z [] = rw z
+all-head p z (x ∷ s) = refl
+
+pub all-two : (p : ℕ → Bool) → p 0 ≡ true → (s : List ℕ) → p (getD s 0 0) ≡ true → p (getD s 1 0) ≡ true → all p s ≡ all p (drop 2 s)
+all-two p z s a b =
+    all-head p z s
+    ∙ rw (a, all-head p z (drop 1 s), getD-drop 1 s 0 0, b, drop-drop 1 1 s)
+
+pub all-reverse : {A : Type 0} (p : A → Bool) (s : List A) → all p (reverse s) ≡ all p s
+unfolding all
+all-reverse p [] = refl
+all-reverse p (x ∷ s) =
+    ap (all p) (reverse-cons x s)
+    ∙ all-append p (reverse s) (x ∷ [])
+    ∙ ap₂ (λ (a b : Bool). a && b) (all-reverse p s) (and-true (p x))
+    ∙ and-comm (all p s) (p x)
+
 -- ---- all of what a loop has left
 
 pub all-step : {A : Type 0} (p : A → Bool) (s : List A) (i : ℕ) (d : A) → i < length s → all p (drop i s) ≡ (p (getD s i d) && all p (drop (i + 1) s))
@@ -146,7 +177,7 @@ unfolding first
 first-at [] = refl
 first-at (x ∷ s) = refl
 
-one-less : (n : ℕ) → suc n - 1 ≡ n
+pub one-less : (n : ℕ) → suc n - 1 ≡ n
 one-less n = omega arith
 
 pub last-at : (s : List ℕ) → last s ≡ getD s (length s - 1) 0
@@ -168,3 +199,6 @@ last-append [] t h = refl
 last-append (x ∷ []) [] h = absurd (not-suc-le-zero h)
 last-append (x ∷ []) (y ∷ t) h = refl
 last-append (x ∷ z ∷ s) t h = last-append (z ∷ s) t h
+
+pub last-cons : (x : ℕ) (s : List ℕ) → 0 < length s → last (x ∷ s) ≡ last s
+last-cons x s h = last-append (x ∷ []) s h

@@ -1,28 +1,28 @@
--- Laws of parts between separators: split and join undo each other, where the parts stand, the run up to a separator,
--- and the test of a text by one pass, `partedFrom`.
+-- Laws of parts between separators: split and join undo each other, the run up to a separator, and the test of a text by one
+-- pass, `partedFrom`, with what it says of the whole text.
 -- Assumes nothing.
-use mathlib.Core.Path.{_≡_, refl, sym, ap, ap₂, _∙_, fun-ext}
+use mathlib.Core.Path.{_≡_, refl, sym, ap, ap₂, _∙_}
 use Prim.Native.Nat.{ℕ, suc, _+_, _-_, _≤_, _<_}
 use native.Mathlib.Nat.{suc-inj, le-of-suc-le-suc}
 use native.Mathlib.Numerals.{add-one}
 use native.Mathlib.Omega.{arith}
-use mathlib.Core.Bool.{Bool, true, false, not, _&&_, _||_, cond, and-true, and-assoc}
-use mathlib.Core.List.{List, [], _∷_, _++_, map, tail, append-assoc}
+use mathlib.Core.Bool.{Bool, true, false, not, _&&_, _||_, cond, and-true, and-false, and-assoc}
+use mathlib.Core.List.{List, [], _∷_, _++_, map, tail}
 use borrow.Author.Tests.{eqb-true, eq-eqb, ltb-true, ltb-false, ne-eqb, not-true}
 use lib.Dec.{eqb, ltb}
-use lib.ListN.{length, take, drop, getD, length-append, length-drop, drop-of-length-le}
-use lib.Seq.{drop-cons, drop-drop, take-append-seam, drop-append-seam, take-length}
-use Rattle.chars.specs.Lists.{all, nonEmpty}
-use Rattle.chars.specs.Class.{between, isAtomChar, isIn, isLetter}
+use lib.ListN.{length, take, drop, getD, length-drop, drop-of-length-le}
+use lib.Seq.{drop-cons, drop-drop, take-length}
+use Rattle.chars.specs.Lists.{all, first, last, nonEmpty}
+use Rattle.chars.specs.Class.{isIn, isLetter}
 use Rattle.chars.specs.Case.{foldCase, foldText}
-use Rattle.chars.specs.declared.class.Class.the-variants.{Atom, Letter}
-use Rattle.chars.specs.Parts.{before, split, join, run, placesFrom, at, isAtoms, isPart, isParted}
+use Rattle.chars.specs.declared.class.Class.the-variants.{Letter}
+use Rattle.chars.specs.Parts.{before, split, join, run, isPart, isParted, sideBySide}
 use Rattle.chars.proofs.Laws.Lists.{all-ext, all-map, all-weaken, and-left, and-right, by-test, true-not-false}
 use Rattle.chars.proofs.Laws.Case.{class-fold, fold-append, fold-other}
 
 -- ---- split and join
 
-pub before-some : (x : ℕ) (ps : List (List ℕ)) → nonEmpty (before x ps) ≡ true
+before-some : (x : ℕ) (ps : List (List ℕ)) → nonEmpty (before x ps) ≡ true
 unfolding before nonEmpty
 before-some x [] = refl
 before-some x (p ∷ ps) = refl
@@ -38,17 +38,17 @@ join-before sep x [] = refl
 join-before sep x (p ∷ []) = refl
 join-before sep x (p ∷ q ∷ ps) = refl
 
-join-empty : (sep : ℕ) (ps : List (List ℕ)) → nonEmpty ps ≡ true → join sep ([] ∷ ps) ≡ sep ∷ join sep ps
+pub join-more : (sep : ℕ) (p : List ℕ) (ps : List (List ℕ)) → nonEmpty ps ≡ true → join sep (p ∷ ps) ≡ p ++ sep ∷ join sep ps
 unfolding join nonEmpty
-join-empty sep [] h = true-not-false true refl (sym h)
-join-empty sep (p ∷ ps) h = refl
+join-more sep p [] h = true-not-false true refl (sym h)
+join-more sep p (q ∷ ps) h = refl
 
 pub join-split : (sep : ℕ) (s : List ℕ) → join sep (split sep s) ≡ s
 unfolding split join
 join-split sep [] = refl
 join-split sep (x ∷ s) =
     by-test (eqb x sep)
-    (λ e. rw e (join-empty sep (split sep s) (split-some sep s) ∙ ap₂ (λ (y : ℕ) (t : List ℕ). y ∷ t) (sym (eqb-true x sep e)) (join-split sep s)))
+    (λ e. rw e (join-more sep [] (split sep s) (split-some sep s) ∙ ap₂ (λ (y : ℕ) (t : List ℕ). y ∷ t) (sym (eqb-true x sep e)) (join-split sep s)))
     (λ e. rw e (join-before sep x (split sep s) ∙ ap (λ (t : List ℕ). x ∷ t) (join-split sep s)))
 
 -- no separator stands in the text
@@ -92,6 +92,20 @@ module _ (sep : ℕ) where
       split-at-sep p (join sep (q ∷ ps)) (and-left (clear sep p) (all (clear sep) (q ∷ ps)) h)
       ∙ ap (λ (r : List (List ℕ)). p ∷ r) (split-join q ps (and-right (clear sep p) (all (clear sep) (q ∷ ps)) h))
 
+  before-append : (x : ℕ) (ps qs : List (List ℕ)) → nonEmpty ps ≡ true → before x (ps ++ qs) ≡ before x ps ++ qs
+  unfolding before nonEmpty
+  before-append x [] qs h = true-not-false true refl (sym h)
+  before-append x (p ∷ ps) qs h = refl
+
+  -- two texts with a separator between them
+  pub split-append : (s t : List ℕ) → split sep (s ++ sep ∷ t) ≡ split sep s ++ split sep t
+  unfolding split
+  split-append [] t = rw (eq-eqb sep sep refl)
+  split-append (x ∷ s) t =
+      by-test (eqb x sep)
+      (λ e. rw (e, split-append s t))
+      (λ e. rw (e, split-append s t) (before-append x (split sep s) (split sep t) (split-some sep s)))
+
   -- ---- the run up to the first separator
 
   pub run-le : (s : List ℕ) → run sep s ≤ length s
@@ -133,6 +147,37 @@ module _ (sep : ℕ) where
   pub split-first : (s : List ℕ) → run sep s < length s → split sep s ≡ take (run sep s) s ∷ split sep (drop (run sep s + 1) s)
   split-first s h = rw add-one (split-cut s h)
 
+  -- the first part of a text is the run, and there are others or not
+  pub split-head : (s : List ℕ) → split sep s ≡ take (run sep s) s ∷ tail (split sep s)
+  split-head s =
+      by-test (ltb (run sep s) (length s))
+      (λ e. let q = split-first s (ltb-true (run sep s) (length s) e) in
+      q ∙ ap (λ (t : List (List ℕ)). take (run sep s) s ∷ tail t) (sym q))
+      (λ e. let g : run sep s ≡ length s = omega (arith, run-le s, ltb-false (run sep s) (length s) e) in
+      let q = split-last s g in
+      q ∙ ap₂ (λ (a : List ℕ) (b : List (List ℕ)). a ∷ b) (sym (rw g (take-length s))) (ap tail (sym q)))
+
+  -- the run has no separator, and one stands behind it unless the text ends there
+  pub run-clear : (s : List ℕ) → clear sep (take (run sep s) s) ≡ true
+  unfolding all
+  run-clear s =
+      and-left (clear sep (take (run sep s) s)) (all (clear sep) (tail (split sep s)))
+      (ap (all (clear sep)) (sym (split-head s)) ∙ split-clear sep s)
+
+  pub run-cut : (s : List ℕ) → run sep s < length s → s ≡ take (run sep s) s ++ sep ∷ drop (suc (run sep s)) s
+  unfolding run
+  run-cut [] h = absurd (omega arith)
+  run-cut (x ∷ s) h =
+      by-test (eqb x sep)
+      (λ e. rw e (ap (λ (y : ℕ). y ∷ s) (eqb-true x sep e)))
+      (λ e. rw e (ap (λ (t : List ℕ). x ∷ t) (run-cut s (le-of-suc-le-suc (rw e at h)))))
+
+  pub run-at : (p s : List ℕ) → clear sep p ≡ true → run sep (p ++ sep ∷ s) ≡ length p
+  unfolding run all
+  run-at [] s h = rw (eq-eqb sep sep refl)
+  run-at (x ∷ p) s h =
+      rw (not-true (eqb x sep) (and-left (not (eqb x sep)) (clear sep p) h), run-at p s (and-right (not (eqb x sep)) (clear sep p) h))
+
   -- the same of what is left from a place on, with the end e of the first part there
   module _ (s : List ℕ) (from e : ℕ) (q : e ≡ from + run sep (drop from s)) where
     pub split-end : length s ≤ e → split sep (drop from s) ≡ drop from s ∷ []
@@ -144,41 +189,6 @@ module _ (sep : ℕ) where
         let m : e + 1 ≡ from + (run sep (drop from s) + 1) = omega arith in
         split-first (drop from s) (omega (arith, length-drop from s))
         ∙ rw (k, m, drop-drop (run sep (drop from s) + 1) from s)
-
-  -- the first part of a text is the run, and there are others or not
-  pub split-head : (s : List ℕ) → split sep s ≡ take (run sep s) s ∷ tail (split sep s)
-  split-head s =
-      by-test (ltb (run sep s) (length s))
-      (λ e. let q = split-first s (ltb-true (run sep s) (length s) e) in
-      q ∙ ap (λ (t : List (List ℕ)). take (run sep s) s ∷ tail t) (sym q))
-      (λ e. let g : run sep s ≡ length s = omega (arith, run-le s, ltb-false (run sep s) (length s) e) in
-      let q = split-last s g in
-      q ∙ ap₂ (λ (a : List ℕ) (b : List (List ℕ)). a ∷ b) (sym (rw g (take-length s))) (ap tail (sym q)))
-
-  -- ---- the places of the parts
-
-  -- after a front pre, the places of parts that are joined have the parts
-  pub places-after : (pre : List ℕ) (ps : List (List ℕ)) → map (at (pre ++ join sep ps)) (placesFrom (length pre) ps) ≡ ps
-  unfolding placesFrom at join
-  places-after pre [] = refl
-  places-after pre (p ∷ []) = rw (drop-append-seam pre p, take-length p)
-  places-after pre (p ∷ q ∷ ps) =
-      ap₂ (λ (a : List ℕ) (b : List (List ℕ)). a ∷ b)
-      (rw (drop-append-seam pre (p ++ sep ∷ join sep (q ∷ ps)), take-append-seam p (sep ∷ join sep (q ∷ ps))))
-      (ap₂ (λ (t : List ℕ) (n : ℕ). map (at t) (placesFrom n (q ∷ ps))) front-is front-size
-      ∙ places-after (pre ++ p ++ (sep ∷ [])) (q ∷ ps))
-    where
-      front-is : pre ++ (p ++ sep ∷ join sep (q ∷ ps)) ≡ pre ++ p ++ (sep ∷ []) ++ join sep (q ∷ ps)
-      front-is = simp append-assoc
-
-      front-size : suc (length pre + length p) ≡ length (pre ++ p ++ (sep ∷ []))
-      front-size = simp length-append (omega arith)
-
-  pub places-join : (ps : List (List ℕ)) → map (at (join sep ps)) (placesFrom 0 ps) ≡ ps
-  places-join ps = places-after [] ps
-
-  pub places-split : (s : List ℕ) → map (at s) (placesFrom 0 (split sep s)) ≡ split sep s
-  places-split s = rw (join-split sep s) at (places-join (split sep s))
 
 -- ---- the test of a text by one pass
 
@@ -250,6 +260,67 @@ module _ (sep : ℕ) (p : ℕ → Bool) where
   parted-some [] h = sym (parted-from []) ∙ h
   parted-some (x ∷ s) h = refl
 
+  -- a text that has no separator, in front of the rest
+  pub from-append : (o : Bool) (u t : List ℕ) → nonEmpty u && clear sep u ≡ true → partedFrom sep p o (u ++ t) ≡ all p u && partedFrom sep p false t
+  unfolding partedFrom nonEmpty all
+  from-append o [] t h = true-not-false true refl (sym h)
+  from-append o (x ∷ []) t h = rw (not-true (eqb x sep) (and-left (not (eqb x sep)) true h), and-true (p x))
+  from-append o (x ∷ y ∷ u) t h =
+      rw (not-true (eqb x sep) (and-left (not (eqb x sep)) (clear sep (y ∷ u)) h), from-append false (y ∷ u) t (and-right (not (eqb x sep)) (clear sep (y ∷ u)) h))
+      (sym (and-assoc (p x) (all p (y ∷ u)) (partedFrom sep p false t)))
+
+-- ---- what the pass says of a whole text, where the separator is not 0
+
+-- the conditions in another order: a separator comes first, and another byte
+at-sep : (n f d a l : Bool) → n && (not f && (a && not d && l)) ≡ a && not (f || d) && (n && l)
+at-sep true true d true l = refl
+at-sep true true d false l = refl
+at-sep true false d a l = refl
+at-sep false f d true l = sym (and-false (not (f || d)))
+at-sep false f d false l = refl
+
+at-other : (q a d l : Bool) → q && (a && d && l) ≡ q && a && d && l
+at-other true a d l = refl
+at-other false a d l = refl
+
+module _ (sep : ℕ) (p : ℕ → Bool) (z : eqb 0 sep ≡ false) where
+  -- the last byte is no separator, with one or another byte in front of the text
+  last-sep : (x : ℕ) (s : List ℕ) → eqb x sep ≡ true → not (eqb (last (x ∷ s)) sep) ≡ nonEmpty s && not (eqb (last s) sep)
+  unfolding last nonEmpty
+  last-sep x [] e = rw e
+  last-sep x (y ∷ s) e = refl
+
+  last-other : (x : ℕ) (s : List ℕ) → eqb x sep ≡ false → not (eqb (last (x ∷ s)) sep) ≡ not (eqb (last s) sep)
+  unfolding last
+  last-other x [] e = rw (e, z)
+  last-other x (y ∷ s) e = refl
+
+  -- what the pass asks of a text after the first byte of a part
+  unfoldable apart : List ℕ → Bool
+  unfolding all sideBySide last
+  apart s = all (λ x. eqb x sep || p x) s && not (sideBySide sep s) && not (eqb (last s) sep)
+
+  from-open : (s : List ℕ) → partedFrom sep p false s ≡ apart s → partedFrom sep p true s ≡ nonEmpty s && (not (eqb (first s) sep) && apart s)
+  unfolding partedFrom nonEmpty first
+  from-open [] h = refl
+  from-open (x ∷ s) h = by-test (eqb x sep) (λ e. rw e) (λ e. rw e (rw e at h))
+
+  from-apart : (s : List ℕ) → partedFrom sep p false s ≡ apart s
+  unfolding partedFrom apart all sideBySide last
+  from-apart [] = rw z
+  from-apart (x ∷ s) =
+      by-test (eqb x sep)
+      (λ e. rw (e, last-sep x s e)
+      (from-open s (from-apart s) ∙ at-sep (nonEmpty s) (eqb (first s) sep) (sideBySide sep s) (all (λ y. eqb y sep || p y) s) (not (eqb (last s) sep))))
+      (λ e. rw (e, last-other x s e)
+      (ap (λ (t : Bool). p x && t) (from-apart s) ∙ at-other (p x) (all (λ y. eqb y sep || p y) s) (not (sideBySide sep s)) (not (eqb (last s) sep))))
+
+  -- parts of the class with single separators between: what the text has, said of the whole
+  pub from-whole : (s : List ℕ)
+      → partedFrom sep p true s ≡ nonEmpty s && (not (eqb (first s) sep) && (all (λ x. eqb x sep || p x) s && not (sideBySide sep s) && not (eqb (last s) sep)))
+  unfolding apart
+  from-whole s = from-open s (from-apart s)
+
 -- parts of a class that has no separator, joined
 pub parted-join : (sep : ℕ) (p : ℕ → Bool) → p sep ≡ false → (q : List ℕ) (qs : List (List ℕ)) → all (isPart p) (q ∷ qs) ≡ true → isParted sep p (join sep (q ∷ qs)) ≡ true
 unfolding isParted isPart
@@ -260,10 +331,6 @@ parted-join sep p h q qs k = rw (split-join sep q qs (all-weaken (isPart p) (cle
 
     part-clear : (t : List ℕ) → isPart p t ≡ true → clear sep t ≡ true
     part-clear t e = all-weaken p (λ x. not (eqb x sep)) byte-clear t (and-right (nonEmpty t) (all p t) e)
-
--- classes that are the same have the same texts
-pub parted-ext : (sep : ℕ) (p q : ℕ → Bool) → ((x : ℕ) → p x ≡ q x) → (s : List ℕ) → isParted sep p s ≡ isParted sep q s
-parted-ext sep p q e s = ap (λ (c : ℕ → Bool). isParted sep c s) (fun-ext e)
 
 -- ---- letter case: a separator that is no letter stays one
 
@@ -314,7 +381,3 @@ parted-fold sep h p f s =
     ap (all (isPart p)) (split-fold sep h s)
     ∙ all-map (isPart p) foldText (split sep s)
     ∙ all-ext (λ q. isPart p (foldText q)) (isPart p) (part-fold p f) (split sep s)
-
-pub atoms-fold : (s : List ℕ) → isAtoms (foldText s) ≡ isAtoms s
-unfolding isAtoms isIn isLetter between
-atoms-fold s = parted-fold 46 refl isAtomChar (class-fold Atom) s

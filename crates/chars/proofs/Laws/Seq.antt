@@ -2,14 +2,15 @@
 -- Assumes nothing.
 use mathlib.Core.Path.{_≡_, refl, sym, ap, _∙_}
 use mathlib.Core.Bool.{true, false}
-use mathlib.Core.List.{List, [], _∷_, _++_, map}
+use mathlib.Core.List.{List, [], _∷_, _++_, map, reverse, reverseAux, reverse-cons}
 use Prim.Native.Nat.{ℕ, zero, suc, _+_, _-_, _≤_, _<_, min}
 use native.Mathlib.Nat.{le-of-suc-le-suc, not-suc-le-zero, zero-lt-suc}
+use native.Mathlib.Numerals.{add-one}
 use native.Mathlib.Omega.{arith}
 use borrow.Author.Tests.{lt-ltb, ltb-false, ltb-true}
 use lib.Dec.{ltb}
-use lib.ListN.{length, drop, getD, take, set, length-take, List·getD-eq-default, List·getD-map}
-use lib.Seq.{drop-drop, getD-drop, getD-take, take-nil}
+use lib.ListN.{length, drop, getD, take, set, length-drop, length-take, List·getD-eq-default, List·getD-map}
+use lib.Seq.{drop-cons, drop-drop, getD-drop, getD-take, take-all, take-nil}
 use Rattle.chars.specs.Lists.{nonEmpty}
 use Rattle.chars.proofs.Laws.Lists.{by-test}
 
@@ -29,6 +30,10 @@ module _ {A : Type 0} where
   drop-take (suc i) zero s = take-same 0 (0 - suc i) (drop (suc i) s) (omega arith)
   drop-take (suc i) (suc j) [] = sym (take-nil (suc j - suc i))
   drop-take (suc i) (suc j) (x ∷ s) = drop-take i j s ∙ take-same (j - i) (suc j - suc i) (drop i s) (omega arith)
+
+  -- the rest of a text, as a part of it
+  pub rest-of : (n : ℕ) (s : List A) → take (length s - n) (drop n s) ≡ drop n s
+  rest-of n s = take-all (length s - n) (drop n s) (omega (arith, length-drop n s))
 
   -- a part of a room is taken again by its own length
   take-own : (n : ℕ) (l : List A) → take (length (take n l)) l ≡ take n l
@@ -65,6 +70,13 @@ map-take f zero s = refl
 map-take f (suc n) [] = refl
 map-take f (suc n) (x ∷ s) = rw (map-take f n s)
 
+map-aux : {A B : Type 0} (f : A → B) (s r : List A) → map f (reverseAux s r) ≡ reverseAux (map f s) (map f r)
+map-aux f [] r = refl
+map-aux f (x ∷ s) r = map-aux f s (x ∷ r)
+
+pub map-reverse : {A B : Type 0} (f : A → B) (s : List A) → map f (reverse s) ≡ reverse (map f s)
+map-reverse f s = map-aux f s []
+
 -- the test for a list by its length, as code tests it
 pub some-test : {A : Type 0} (s : List A) → ltb 0 (length s) ≡ nonEmpty s
 unfolding nonEmpty
@@ -83,6 +95,11 @@ unfolding nonEmpty
 some-append [] t h = h
 some-append (x ∷ s) t h = refl
 
+pub some-reverse : {A : Type 0} (s : List A) → nonEmpty s ≡ true → nonEmpty (reverse s) ≡ true
+unfolding nonEmpty
+some-reverse [] h = h
+some-reverse (x ∷ s) h = ap nonEmpty (reverse-cons x s) ∙ some-append (reverse s) (x ∷ []) refl
+
 pub absent-is : {A : Type 0} (s : List A) → nonEmpty s ≡ false → s ≡ []
 absent-is s h = no-length s (ltb-false 0 (length s) (some-test s ∙ h))
 
@@ -96,6 +113,10 @@ byte-inside s i h =
 -- how much of its room a text takes
 pub length-view : {A : Type 0} (n : ℕ) (b : List A) (room : ℕ) → length b ≡ room → length (take n b) ≡ min n room
 length-view n b room e = length-take n b ∙ ap (min n) e
+
+-- what stands at a place, and the text behind it
+pub front-there : (s : List ℕ) (i : ℕ) → i < length s → drop i s ≡ getD s i 0 ∷ drop (i + 1) s
+front-there s i h = rw add-one (drop-cons s i 0 h)
 
 -- what stands behind a place: the next byte, the one behind it, and the text behind the next byte
 module _ (s : List ℕ) (i : ℕ) where

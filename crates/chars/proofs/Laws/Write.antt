@@ -6,8 +6,8 @@ use native.Mathlib.Nat.{add-zero, add-suc, suc-add, zero-add}
 use native.Mathlib.Numerals.{add-one}
 use native.Mathlib.Omega.{arith}
 use mathlib.Core.List.{List, [], _∷_, _++_}
-use lib.ListN.{length, take, drop, set, getD, length-append, length-drop}
-use lib.Seq.{sets, sets-eq, length-sets, take-append-seam, take-at, length-take-le, drop-append-seam, drop-cons}
+use lib.ListN.{length, take, drop, set, getD, length-append, length-drop, length-take}
+use lib.Seq.{sets, sets-eq, set-out, length-sets, take-append-seam, take-at, length-take-le, drop-append-seam, drop-cons, getD-take}
 use Rattle.chars.specs.Write.{Wrote, front}
 
 -- two runs of stores, one after the other
@@ -21,6 +21,28 @@ sets-append l i (x ∷ s) t =
 pub sets-step : (l : List ℕ) (k : ℕ) (s : List ℕ) (i : ℕ) → i < length s
     → sets l (k + i) (drop i s) ≡ sets (set l (k + i) (getD s i 0)) (k + (i + 1)) (drop (i + 1) s)
 sets-step l k s i h = rw (add-one, drop-cons s i 0, add-suc k i)
+
+-- stores past the end of a buffer change nothing
+pub sets-out : (l : List ℕ) (i : ℕ) (s : List ℕ) → length l ≤ i → sets l i s ≡ l
+sets-out l i [] h = refl
+sets-out l i (x ∷ s) h = rw (set-out l i x h) (sets-out l (suc i) s (omega arith))
+
+sets-under : (x : ℕ) (l : List ℕ) (i : ℕ) (s : List ℕ) → sets (x ∷ l) (suc i) s ≡ x ∷ sets l i s
+sets-under x l i [] = refl
+sets-under x l i (y ∷ s) = sets-under x (set l i y) (suc i) s
+
+pub sets-front : (l s : List ℕ) → sets l 0 s ≡ front (take (length l) s) l
+unfolding front
+sets-front [] s = sets-out [] 0 s (omega arith)
+sets-front (x ∷ l) [] = refl
+sets-front (x ∷ l) (y ∷ s) = sets-under y l 0 s ∙ ap (λ t. y ∷ t) (sets-front l s)
+
+-- a turn of a loop that stores the first n of b
+pub sets-more : (l : List ℕ) (at n : ℕ) (b : List ℕ) (i : ℕ) → i < n → n ≤ length b
+    → sets l (at + i) (drop i (take n b)) ≡ sets (set l (at + i) (getD b i 0)) (at + (i + 1)) (drop (i + 1) (take n b))
+sets-more l at n b i h k =
+    sets-step l at (take n b) i (rw length-take (omega arith))
+    ∙ ap (λ x. sets (set l (at + i) x) (at + (i + 1)) (drop (i + 1) (take n b))) (getD-take n b i 0 h)
 
 pub wrote-nothing : {o : List ℕ} {i : ℕ} → Wrote o i [] i o
 wrote-nothing {o} {i} = record { moved = sym (add-zero i); holds = refl }

@@ -6,11 +6,12 @@ use mathlib.Core.List.{List}
 use mathlib.Core.Option.{some}
 use Prim.Native.Nat.{ℕ, _≤_}
 use native.Mathlib.Omega.{arith}
-use borrow.Author.Tests.{leb-true, lt-ltb}
-use lib.Dec.{leb, ltb}
+use borrow.Author.Tests.{leb-true}
+use lib.Dec.{leb}
 use lib.ListN.{length}
-use Rattle.chars.specs.Class.{between}
+use Rattle.chars.specs.Class.{between, isChar}
 use Rattle.chars.specs.Lists.{all}
+use Rattle.chars.proofs.Laws.Class.{is-char}
 use Rattle.chars.proofs.Laws.Lists.{all-weaken, and-right}
 use Rattle.oraddr.specs.Bounds.{DD-VALUE, boundOf, isValue}
 use Rattle.mailaddr.specs.Code.{coded, decoded}
@@ -19,12 +20,12 @@ use Rattle.mailaddr.proofs.Laws.Code.{coded-value, decode-coded}
 use Rattle.mailaddr.proofs.Laws.Shape.{shape-bytes, shape-ends}
 
 module _ (s : List ℕ) (a : Address) (h : shapeOf s ≡ some a) where
-  -- its bytes are below 128
-  low-bytes : all (λ b. ltb b 128) s ≡ true
+  -- its bytes are ASCII
+  low-bytes : all isChar s ≡ true
   unfolding between
   low-bytes =
-      all-weaken (λ b. between 32 126 b) (λ b. ltb b 128)
-      (λ x e. lt-ltb x 128 (omega (arith, leb-true x 126 (and-right (leb 32 x) (leb x 126) e))))
+      all-weaken (λ b. between 32 126 b) isChar
+      (λ x e. is-char x (omega (arith, leb-true x 126 (and-right (leb 32 x) (leb x 126) e))))
       s (shape-bytes s a h)
 
   pub carried-value : length (coded s) ≤ boundOf DD-VALUE → isValue DD-VALUE (coded s) ≡ true

@@ -2,7 +2,7 @@
 -- escaped and unescaped.
 -- Assumes nothing.
 use mathlib.Core.Path.{_≡_, refl, sym, ap, _∙_}
-use mathlib.Core.Bool.{Bool, true, false, not, _&&_, _||_, cond}
+use mathlib.Core.Bool.{true, false, not, _&&_, _||_, cond}
 use mathlib.Core.List.{List, [], _∷_, _++_}
 use mathlib.Core.Option.{Option, none, some}
 use Prim.Native.Nat.{ℕ, zero, suc, _+_, _-_, _*_, _≤_, _<_}
@@ -10,12 +10,14 @@ use native.Mathlib.Numerals.{add-one}
 use native.Mathlib.Omega.{arith}
 use borrow.Author.Tests.{eqb-true, leb-true, ltb-true, ltb-false}
 use lib.Dec.{eqb, leb, ltb}
-use lib.ListN.{length, take, drop, getD, length-append, drop-of-length-le, List·getD-eq-default}
-use lib.Seq.{sets, drop-cons, drop-drop, getD-drop, length-take-le, take-nil, take-take}
+use lib.ListN.{length, take, drop, getD, length-append, drop-of-length-le}
+use lib.Seq.{sets, drop-cons, length-take-le, take-take}
 use Rattle.chars.specs.Lists.{all}
 use Rattle.chars.specs.Class.{between}
 use Rattle.chars.specs.Write.{Wrote}
 use Rattle.chars.proofs.Laws.Lists.{and-left, and-right, by-test, true-not-false}
+pub use Rattle.chars.proofs.Laws.Lists.{neither}
+pub use Rattle.chars.proofs.Laws.Options.{none-some, some-same}
 use Rattle.chars.proofs.Laws.Seq.{beyond, drop-take, second}
 use Rattle.chars.proofs.Laws.Write.{sets-append}
 use Rattle.mailaddr.specs.Shape.{closing, escaped, inner, isText, more, unescaped}
@@ -77,12 +79,6 @@ module _ (s : List ℕ) (i : ℕ) where
 pub text-some : (b : ℕ) → isText b ≡ true → 0 < b
 unfolding isText between
 text-some b e = omega (arith, leb-true 32 b (and-left (leb 32 b) (leb b 126) e))
-
-pub some-same : {A : Type 0} {a b : A} → some a ≡ some b → a ≡ b
-some-same e = cc
-
-pub none-some : {X A : Type 0} {a : A} → _≡_ {A = Option A} none (some a) → X
-none-some e = let z : _≡_ {A = ℕ} 0 1 = cc in absurd (omega arith)
 
 pub more-some : (m : ℕ) (o : Option ℕ) (n : ℕ) → more m o ≡ some n → (k : ℕ) × (o ≡ some k) × (n ≡ m + k)
 unfolding more
@@ -156,11 +152,6 @@ closes (x ∷ y ∷ s) n h =
 
 -- ---- escaped and unescaped
 
--- both tests of a byte that needs no backslash
-pub neither : (a b : Bool) → (a || b) ≡ false → (a ≡ false) × (b ≡ false)
-neither true b h = (h, true-not-false true refl h)
-neither false b h = (refl, h)
-
 pub unescaped-plain : (x : ℕ) (t : List ℕ) → eqb x 92 ≡ false → unescaped (x ∷ t) ≡ x ∷ unescaped t
 unfolding unescaped
 unescaped-plain x [] e = refl
@@ -193,7 +184,7 @@ unfolding escaped
 escaped-append [] t = refl
 escaped-append (x ∷ s) t = by-test (eqb x 34 || eqb x 92) (λ e. rw (e, escaped-append s t)) (λ e. rw (e, escaped-append s t))
 
-pub escaped-cons : (x : ℕ) (s : List ℕ) → escaped (x ∷ s) ≡ escaped (x ∷ []) ++ escaped s
+escaped-cons : (x : ℕ) (s : List ℕ) → escaped (x ∷ s) ≡ escaped (x ∷ []) ++ escaped s
 escaped-cons x s = escaped-append (x ∷ []) s
 
 pub escaped-step : (s : List ℕ) (i : ℕ) → i < length s → escaped (drop i s) ≡ escaped (getD s i 0 ∷ []) ++ escaped (drop (i + 1) s)

@@ -3,12 +3,10 @@
 -- Assumes nothing.
 use mathlib.Core.Path.{_≡_, refl, sym, ap, ap₂, _∙_}
 use Prim.Native.Nat.{ℕ, zero, suc, _+_, _-_, _≤_, _<_}
-use native.Mathlib.Nat.{le-of-suc-le-suc}
 use native.Mathlib.Numerals.{add-one}
 use native.Mathlib.Omega.{arith}
-use mathlib.Core.Bool.{Bool, true, false, not, _&&_, and-comm, and-true}
-use mathlib.Core.List.{List, [], _∷_, _++_, map, tail, reverse, reverseAux, reverse-append, reverse-cons, reverse-reverse}
-use borrow.Author.Tests.{eqb-true}
+use mathlib.Core.Bool.{true, false, not}
+use mathlib.Core.List.{List, [], _∷_, _++_, map, reverse, reverse-append, reverse-cons, reverse-reverse}
 use lib.Dec.{eqb}
 use lib.ListN.{length, take, drop, getD, length-append, length-drop, length-reverse, drop-of-length-le}
 use lib.Seq.{append-snoc, drop-at, drop-cons, length-take-le, take-add, take-all, take-at, take-suc, take-take}
@@ -17,34 +15,11 @@ use Rattle.chars.specs.Class.{between, isAtomChar, isLetter}
 use Rattle.chars.specs.Case.{foldText}
 use Rattle.chars.specs.Domain.{isDomainPart}
 use Rattle.chars.specs.Parts.{before, isAtoms, isPart, isParted, join, run, split}
-use Rattle.chars.proofs.Laws.Lists.{all-append, all-ext, all-map, all-weaken, and-both, and-left, by-test, true-not-false}
-use Rattle.chars.proofs.Laws.Domain.{domain-part-atom, domain-part-fold}
-use Rattle.chars.proofs.Laws.Seq.{some-append}
-use Rattle.chars.proofs.Laws.Parts.{clear, join-fold, join-split, run-le, split-at-sep, split-clear, split-end, split-fold, split-head, split-join, split-next, split-one, split-some}
+use Rattle.chars.proofs.Laws.Lists.{all-reverse, all-weaken, and-both, and-left, one-less, true-not-false}
+use Rattle.chars.proofs.Laws.Domain.{domain-part-atom}
+use Rattle.chars.proofs.Laws.Seq.{map-reverse, some-reverse}
+use Rattle.chars.proofs.Laws.Parts.{clear, join-fold, join-more, join-split, run-clear, run-cut, run-le, split-append, split-at-sep, split-clear, split-end, split-fold, split-head, split-join, split-next, split-one, split-some}
 use Rattle.mailaddr.specs.Domain.{domainOf, inFront, isDomain, partsOf}
-
--- ---- lists the other way round
-
-all-reverse : {A : Type 0} (p : A → Bool) (s : List A) → all p (reverse s) ≡ all p s
-unfolding all
-all-reverse p [] = refl
-all-reverse p (x ∷ s) =
-    ap (all p) (reverse-cons x s)
-    ∙ all-append p (reverse s) (x ∷ [])
-    ∙ ap₂ (λ (a b : Bool). a && b) (all-reverse p s) (and-true (p x))
-    ∙ and-comm (all p s) (p x)
-
-some-reverse : {A : Type 0} (s : List A) → nonEmpty s ≡ true → nonEmpty (reverse s) ≡ true
-unfolding nonEmpty
-some-reverse [] h = h
-some-reverse (x ∷ s) h = ap nonEmpty (reverse-cons x s) ∙ some-append (reverse s) (x ∷ []) refl
-
-map-aux : {A B : Type 0} (f : A → B) (s r : List A) → map f (reverseAux s r) ≡ reverseAux (map f s) (map f r)
-map-aux f [] r = refl
-map-aux f (x ∷ s) r = map-aux f s (x ∷ r)
-
-map-reverse : {A B : Type 0} (f : A → B) (s : List A) → map f (reverse s) ≡ reverse (map f s)
-map-reverse f s = map-aux f s []
 
 -- ---- joining and parting
 
@@ -77,50 +52,18 @@ pub parts-front : (p d : List ℕ) → clear 46 p ≡ true → partsOf (inFront 
 unfolding partsOf inFront
 parts-front p d h = ap reverse (split-at-sep 46 p d h) ∙ reverse-cons p (split 46 d)
 
-join-more : (p : List ℕ) (ps : List (List ℕ)) → nonEmpty ps ≡ true → join 46 (p ∷ ps) ≡ p ++ 46 ∷ join 46 ps
-unfolding join nonEmpty
-join-more p [] h = true-not-false true refl (sym h)
-join-more p (q ∷ ps) h = refl
-
 pub domain-front : (ps : List (List ℕ)) (p : List ℕ) → nonEmpty ps ≡ true → domainOf (ps ++ (p ∷ [])) ≡ inFront p (domainOf ps)
 unfolding domainOf inFront
-domain-front ps p h = ap (join 46) (reverse-append ps (p ∷ [])) ∙ join-more p (reverse ps) (some-reverse ps h)
+domain-front ps p h = ap (join 46) (reverse-append ps (p ∷ [])) ∙ join-more 46 p (reverse ps) (some-reverse ps h)
 
 -- ---- the part on the right
 
-before-append : (x : ℕ) (ps qs : List (List ℕ)) → nonEmpty ps ≡ true → before x (ps ++ qs) ≡ before x ps ++ qs
-unfolding before nonEmpty
-before-append x [] qs h = true-not-false true refl (sym h)
-before-append x (p ∷ ps) qs h = refl
-
-split-append : (s t : List ℕ) → split 46 (s ++ 46 ∷ t) ≡ split 46 s ++ split 46 t
-unfolding split
-split-append [] t = refl
-split-append (x ∷ s) t =
-    by-test (eqb x 46)
-    (λ e. rw (e, split-append s t))
-    (λ e. rw (e, split-append s t) (before-append x (split 46 s) (split 46 t) (split-some 46 s)))
-
 -- a part behind a domain comes first from the right
-pub parts-behind : (d p : List ℕ) → clear 46 p ≡ true → partsOf (d ++ 46 ∷ p) ≡ p ∷ partsOf d
+parts-behind : (d p : List ℕ) → clear 46 p ≡ true → partsOf (d ++ 46 ∷ p) ≡ p ∷ partsOf d
 unfolding partsOf
 parts-behind d p h =
-    ap reverse (split-append d p ∙ ap (λ (q : List (List ℕ)). split 46 d ++ q) (split-one 46 p h))
+    ap reverse (split-append 46 d p ∙ ap (λ (q : List (List ℕ)). split 46 d ++ q) (split-one 46 p h))
     ∙ reverse-append (split 46 d) (p ∷ [])
-
-run-clear : (u : List ℕ) → clear 46 (take (run 46 u) u) ≡ true
-unfolding all
-run-clear u =
-    and-left (clear 46 (take (run 46 u) u)) (all (clear 46) (tail (split 46 u)))
-    (ap (all (clear 46)) (sym (split-head 46 u)) ∙ split-clear 46 u)
-
-run-cut : (u : List ℕ) → run 46 u < length u → u ≡ take (run 46 u) u ++ 46 ∷ drop (suc (run 46 u)) u
-unfolding run
-run-cut [] h = absurd (omega arith)
-run-cut (x ∷ u) h =
-    by-test (eqb x 46)
-    (λ e. rw e (ap (λ (y : ℕ). y ∷ u) (eqb-true x 46 e)))
-    (λ e. rw e (ap (λ (v : List ℕ). x ∷ v) (run-cut u (le-of-suc-le-suc (rw e at h)))))
 
 back-le : (t : List ℕ) → run 46 (reverse t) ≤ length t
 back-le t = omega (arith, run-le 46 (reverse t), length-reverse t)
@@ -131,7 +74,7 @@ unfolding all
 back-whole t h =
     sym (all-reverse (λ x. not (eqb x 46)) t)
     ∙ ap (clear 46) (sym (take-all (run 46 (reverse t)) (reverse t) (omega (arith, length-reverse t))))
-    ∙ run-clear (reverse t)
+    ∙ run-clear 46 (reverse t)
 
 -- else a dot stands before it
 back-cut : (t : List ℕ) → run 46 (reverse t) < length t
@@ -145,11 +88,11 @@ back-cut t h =
       reverse rest,
       reverse part,
       sym (reverse-reverse t)
-          ∙ ap reverse (run-cut u (omega (arith, length-reverse t)))
+          ∙ ap reverse (run-cut 46 u (omega (arith, length-reverse t)))
           ∙ reverse-append part (46 ∷ rest)
           ∙ ap (λ (l : List ℕ). l ++ reverse part) (reverse-cons 46 rest)
           ∙ append-snoc (reverse rest) 46 (reverse part),
-      all-reverse (λ x. not (eqb x 46)) part ∙ run-clear u,
+      all-reverse (λ x. not (eqb x 46)) part ∙ run-clear 46 u,
       length-reverse part ∙ length-take-le k u (run-le 46 u),
     )
 
@@ -159,13 +102,13 @@ module _ (s : List ℕ) (end r : ℕ) (fits : end ≤ length s) (q : r ≡ end -
   pub start-within : r ≤ end
   start-within = omega arith
 
-  pub part-last : r ≡ 0 → partsOf (take end s) ≡ take end s ∷ []
+  part-last : r ≡ 0 → partsOf (take end s) ≡ take end s ∷ []
   unfolding partsOf
   part-last h =
       let t : List ℕ = take end s in
       ap reverse (split-one 46 t (back-whole t (omega (arith, back-le t, length-take-le end s fits))))
 
-  pub part-more : 0 < r → partsOf (take end s) ≡ take (end - r) (drop r s) ∷ partsOf (take (r - 1) s)
+  part-more : 0 < r → partsOf (take end s) ≡ take (end - r) (drop r s) ∷ partsOf (take (r - 1) s)
   part-more h =
       let t : List ℕ = take end s in
       let n = length-take-le end s fits in
@@ -190,9 +133,6 @@ unfoldable pub partsLeft : List ℕ → ℕ → List (List ℕ)
 unfolding partsOf
 partsLeft s zero = []
 partsLeft s (suc r) = partsOf (take r s)
-
-one-less : (n : ℕ) → suc n - 1 ≡ n
-one-less n = omega arith
 
 pub left-none : (s : List ℕ) (r : ℕ) → r ≡ 0 → partsLeft s r ≡ []
 unfolding partsLeft
@@ -295,13 +235,6 @@ parts-fold d = ap reverse (split-fold 46 dot-other d) ∙ sym (map-reverse foldT
 pub domain-fold : (ps : List (List ℕ)) → domainOf (map foldText ps) ≡ foldText (domainOf ps)
 unfolding domainOf
 domain-fold ps = ap (join 46) (sym (map-reverse foldText ps)) ∙ join-fold 46 dot-other (reverse ps)
-
-pub is-domain-fold : (d : List ℕ) → isDomain (foldText d) ≡ isDomain d
-unfolding isDomain
-is-domain-fold d =
-    ap (all isDomainPart) (split-fold 46 dot-other d)
-    ∙ all-map isDomainPart foldText (split 46 d)
-    ∙ all-ext (λ q. isDomainPart (foldText q)) isDomainPart domain-part-fold (split 46 d)
 
 -- domain parts are atoms
 pub domain-atoms : (d : List ℕ) → isDomain d ≡ true → isAtoms d ≡ true

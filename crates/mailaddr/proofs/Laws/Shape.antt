@@ -9,20 +9,21 @@ use Prim.Native.Nat.{ℕ, suc, _+_, _-_, _*_, _≤_, _<_}
 use native.Mathlib.Nat.{zero-add}
 use native.Mathlib.Numerals.{add-one}
 use native.Mathlib.Omega.{arith}
-use borrow.Author.Tests.{eq-eqb, eqb-true, le-leb, le-ltb, ne-eqb, not-true}
+use borrow.Author.Tests.{eq-eqb, eqb-true, le-leb, le-ltb, ne-eqb}
 use lib.Dec.{eqb}
-use lib.ListN.{length, take, drop, getD, length-append, length-drop}
-use lib.Seq.{drop-append-add, getD-append-seam, length-take-le, split-at, take-all, take-append-seam, take-at, take-length}
+use lib.ListN.{length, take, drop, getD, length-append}
+use lib.Seq.{drop-append-add, getD-append-seam, length-take-le, split-at, take-append-seam, take-at, take-length}
 use Rattle.chars.specs.Lists.{all, bytes, first, last, member, nonEmpty}
 use Rattle.chars.specs.Class.{between, isAtomChar, isDigit, isLetter, isPrintable, isQuotable}
 use Rattle.chars.specs.Parts.{isAtoms, isParted, run}
 use Rattle.chars.specs.Spaces.{wellSpaced}
 use Rattle.chars.proofs.Laws.Class.{atom-range}
-use Rattle.chars.proofs.Laws.Lists.{all-append, all-at, all-ext, all-weaken, and-both, and-left, and-right, by-test, first-append, first-at, last-append, last-at, or-cases, true-not-false}
-use Rattle.chars.proofs.Laws.Parts.{clear, parted-all, parted-some}
+use Rattle.chars.proofs.Laws.Lists.{all-append, all-at, all-ext, all-weaken, and-both, and-left, and-right, by-test, first-append, first-at, last-append, last-at, last-cons, or-cases, true-not-false}
+use Rattle.chars.proofs.Laws.Parts.{clear, parted-all, parted-some, run-at}
 use Rattle.chars.proofs.Laws.Seq.{byte-inside, some-append}
+pub use Rattle.chars.proofs.Laws.Seq.{rest-of}
 use Rattle.chars.proofs.Laws.Spaces.{parted-spaced}
-use Rattle.mailaddr.specs.Shape.{Address, addressText, closing, escaped, inner, isReadable, isText, more, plainShape, quotedLocal, quotedShape, shapeOf, unescaped, unquotedLocal, withLocal}
+use Rattle.mailaddr.specs.Shape.{Address, addressText, closing, escaped, inner, isReadable, isText, longestAddress, more, plainShape, quotedLocal, quotedShape, shapeOf, unescaped, unquotedLocal, withLocal}
 use Rattle.mailaddr.specs.Answers.{addressAt, fromShape, localAt, shaping}
 use Rattle.mailaddr.specs.declared.shape.Parted.{Parted}
 use Rattle.mailaddr.proofs.Laws.Closing.{closes, escaped-close, escaped-plain, inner-at, inner-none, length-escaped, more-some, none-some, some-same, unescape-escape}
@@ -127,7 +128,7 @@ shaped-plain s a h =
     (λ e. shaped-by false (run 64 s) s a (rw e at h) e)
     (λ e. none-some (rw e at h))
 
-pub shape-parts : (s : List ℕ) (a : Address) → shapeOf s ≡ some a → Shaped s a
+shape-parts : (s : List ℕ) (a : Address) → shapeOf s ≡ some a → Shaped s a
 unfolding shapeOf
 shape-parts s a h =
     by-test (eqb (first s) 34)
@@ -150,12 +151,6 @@ with-parts : (q : Bool) (l d : List ℕ) → isAtoms d ≡ true
 unfolding withLocal
 with-parts q l d h = rw (getD-append-seam l 64 d 0, take-append-seam l (64 ∷ d), drop-append-add l (64 ∷ d) 1, h)
 
-run-at : (l d : List ℕ) → clear 64 l ≡ true → run 64 (l ++ 64 ∷ d) ≡ length l
-unfolding run all
-run-at [] d h = refl
-run-at (x ∷ l) d h =
-    rw (not-true (eqb x 64) (and-left (not (eqb x 64)) (clear 64 l) h), run-at l d (and-right (not (eqb x 64)) (clear 64 l) h))
-
 cond-true : {A : Type 0} {t : Bool} {x y : A} (z : A) → t ≡ true → x ≡ y → cond t x z ≡ y
 cond-true z e f = rw e f
 
@@ -166,7 +161,7 @@ shape-one true l d k h =
     rw (k .opened, closes (k .inside) (length (k .inside)) (k .shut) .longer (64 ∷ d), add-one)
     (with-parts true (34 ∷ k .inside) d h)
 shape-one false l d k h =
-    rw (first-append l (64 ∷ d) (atoms-some l k), atom-not 34 no-quote (first l) (atoms-first l k), run-at l d (atoms-clear l k))
+    rw (first-append l (64 ∷ d) (atoms-some l k), atom-not 34 no-quote (first l) (atoms-first l k), run-at 64 l d (atoms-clear l k))
     (cond-true none (ap isAtoms (take-append-seam l (64 ∷ d)) ∙ k) (with-parts false l d h))
 
 -- ---- the bytes of an address
@@ -201,9 +196,6 @@ local-first : (q : Bool) (l : List ℕ) → IsLocal q l → (0 < length l) × (3
 unfolding IsLocal first
 local-first true l k = rw (k .opened) (omega arith, omega arith)
 local-first false l k = (atoms-some l k, atom-byte (first l) (atoms-first l k) .0)
-
-last-cons : (x : ℕ) (l : List ℕ) → 0 < length l → last (x ∷ l) ≡ last l
-last-cons x l h = last-append (x ∷ []) l h
 
 -- it is not empty, and neither begins nor ends with a space
 pub shape-ends : (s : List ℕ) (a : Address) → shapeOf s ≡ some a → (nonEmpty s ≡ true) × (first s ≡ 32 → ⊥) × (last s ≡ 32 → ⊥)
@@ -240,7 +232,7 @@ quoted-text u h =
     }
 
 -- such a text is a local part when it is quoted
-pub quoted-local : (u : List ℕ) → all isText u ≡ true → IsLocal (not (isAtoms u)) (quotedLocal u)
+quoted-local : (u : List ℕ) → all isText u ≡ true → IsLocal (not (isAtoms u)) (quotedLocal u)
 unfolding IsLocal
 quoted-local u h =
     by-test (isAtoms u)
@@ -283,17 +275,13 @@ quotable-plain x h =
     (λ f. rw (e, f)))
 
 -- where it has no quote and no backslash, the two quotes are all that quoting adds
-pub length-quoted-plain : (u : List ℕ) → all (λ x. not (eqb x 34 || eqb x 92)) u ≡ true → isAtoms u ≡ false → length (quotedLocal u) ≡ length u + 2
+length-quoted-plain : (u : List ℕ) → all (λ x. not (eqb x 34 || eqb x 92)) u ≡ true → isAtoms u ≡ false → length (quotedLocal u) ≡ length u + 2
 length-quoted-plain u h e = rw (quoted-other u e, escaped-plain u h) (omega (arith, length-append u (34 ∷ [])))
 
 pub length-quoted-quotable : (u : List ℕ) → all isQuotable u ≡ true → isAtoms u ≡ false → length (quotedLocal u) ≡ length u + 2
 length-quoted-quotable u h = length-quoted-plain u (all-weaken isQuotable (λ x. not (eqb x 34 || eqb x 92)) quotable-plain u h)
 
 -- ---- what the code asks, in its order
-
--- the rest of a text, as a part of it
-pub rest-of : (n : ℕ) (s : List ℕ) → take (length s - n) (drop n s) ≡ drop n s
-rest-of n s = take-all (length s - n) (drop n s) (omega (arith, length-drop n s))
 
 pub quoted-at : (s : List ℕ) (o : Option ℕ) (e : ℕ) → more 1 o ≡ some e → quotedShape s o ≡ withLocal true e s
 unfolding quotedShape
@@ -311,13 +299,13 @@ pub plain-at : (s : List ℕ) (e : ℕ) → e ≡ 0 + run 64 (drop 0 s) → plai
 unfolding plainShape
 plain-at s e h = rw (h, zero-add)
 
-pub shaping-quoted : (s : List ℕ) → length s ≤ 2048 → getD s 0 0 ≡ 34 → shaping s ≡ fromShape (quotedShape s (closing (drop 1 s)))
+pub shaping-quoted : (s : List ℕ) → length s ≤ longestAddress → getD s 0 0 ≡ 34 → shaping s ≡ fromShape (quotedShape s (closing (drop 1 s)))
 unfolding shaping shapeOf
-shaping-quoted s h e = rw (le-ltb 2048 (length s) h, first-at s, eq-eqb (getD s 0 0) 34 e)
+shaping-quoted s h e = rw (le-ltb longestAddress (length s) h, first-at s, eq-eqb (getD s 0 0) 34 e)
 
-pub shaping-plain : (s : List ℕ) → length s ≤ 2048 → (getD s 0 0 ≡ 34 → ⊥) → shaping s ≡ fromShape (plainShape s)
+pub shaping-plain : (s : List ℕ) → length s ≤ longestAddress → (getD s 0 0 ≡ 34 → ⊥) → shaping s ≡ fromShape (plainShape s)
 unfolding shaping shapeOf
-shaping-plain s h e = rw (le-ltb 2048 (length s) h, first-at s, ne-eqb (getD s 0 0) 34 e)
+shaping-plain s h e = rw (le-ltb longestAddress (length s) h, first-at s, ne-eqb (getD s 0 0) 34 e)
 
 pub local-plain : (s : List ℕ) (p : Parted) → p .quoted ≡ false → localAt s p ≡ take (p .at) s
 unfolding localAt unquotedLocal addressAt

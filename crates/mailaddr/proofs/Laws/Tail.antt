@@ -18,10 +18,6 @@ use Rattle.mailaddr.proofs.Laws.Domain.{domain-parts, left-none, left-s
 
 -- ---- a tail of the first by whole parts
 
-pub tail-first : (a b : List ℕ) → sharedTail a b ≡ domainOf (take (shared (partsOf a) (partsOf b)) (partsOf a))
-unfolding sharedTail
-tail-first a b = refl
-
 join-tail : (xs ys : List (List ℕ)) → (pre : List ℕ) × (pre ++ join 46 ys ≡ join 46 (xs ++ ys))
 unfolding join
 join-tail [] ys = ([], refl)

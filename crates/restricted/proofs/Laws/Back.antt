@@ -6,16 +6,18 @@ use mathlib.Core.Bool.{true, false, not, _&&_, _||_}
 use mathlib.Core.List.{List, [], _∷_, _++_}
 use mathlib.Core.Option.{some}
 use native.Mathlib.Omega.{arith}
-use borrow.Author.Tests.{eqb-false, eqb-true, leb-true, not-true}
-use lib.Dec.{eqb, leb}
+use borrow.Author.Tests.{eqb-false, eqb-true, not-true}
+use lib.Dec.{eqb}
 use lib.ListN.{getD}
 use Rattle.chars.specs.Case.{foldCase}
-use Rattle.chars.specs.Class.{between, isDigit}
-use Rattle.chars.specs.Lists.{all, bytes, member}
+use Rattle.chars.specs.Class.{between, isChar, isDigit}
+use Rattle.chars.specs.Digits.{digitsNumber, isNumberGroup, threeDigits}
+use Rattle.chars.specs.Lists.{all, bytes, member, onto}
+use Rattle.chars.proofs.Laws.Class.{at-char, char-most}
+use Rattle.chars.proofs.Laws.Digits.{digits-back}
 use Rattle.chars.proofs.Laws.Lists.{and-left, and-right, by-test}
-use Rattle.restricted.specs.Answers.{shortGroup, threeDigits}
-use Rattle.restricted.specs.Code.{charIn, charOf, codeChar, coded, decoded, isChar, isControl, isNumberGroup, isPlain, isShortGroup, isSpecial, letterIn, letterOf, numberOf, numbered, onto, orAsItStands, parse, parsedAfter, short}
-use Rattle.restricted.proofs.Laws.Code.{at-char}
+use Rattle.restricted.specs.Answers.{shortGroup}
+use Rattle.restricted.specs.Code.{charIn, charOf, codeChar, coded, decoded, isControl, isPlain, isShortGroup, letterIn, letterOf, numbered, orAsItStands, parse, parsedAfter, short}
 use Rattle.restricted.proofs.Laws.Parse.{decoded-parsed, parse-number, parse-plain, parse-short, parse-space}
 
 -- ---- a character
@@ -39,15 +41,9 @@ abbrev digits : ℕ → List ℕ → List ℕ
 digits b s = (48 + b / 100) ∷ (48 + b / 10 % 10) ∷ (48 + b % 10) ∷ 35 ∷ s
 
 number-back : (b : ℕ) (s : List ℕ) → isChar b ≡ true → (shortGroup (digits b s) ≡ 0) × (threeDigits (digits b s) ≡ b)
-unfolding shortGroup threeDigits numberOf isDigit between
-number-back b s h = (
-  eqb-true (shortGroup (digits b s)) 0 (at-char (λ b. eqb (shortGroup (digits b [])) 0) (λ b. true) tt b h),
-  eqb-true (threeDigits (digits b s)) b (at-char (λ b. eqb (threeDigits (digits b [])) b) (λ b. true) tt b h),
-)
-
-char-most : (b : ℕ) → isChar b ≡ true → leb b 127 ≡ true
-unfolding isChar
-char-most b h = h
+unfolding shortGroup
+number-back b s h =
+    (eqb-true (shortGroup (digits b s)) 0 (at-char (λ b. eqb (shortGroup (digits b [])) 0) (λ b. true) tt b h), digits-back b (35 ∷ s) h)
 
 char-back : (b : ℕ) (s : List ℕ) → isChar b ≡ true → parse (codeChar b ++ s) ≡ onto b (parse s)
 unfolding codeChar numbered
@@ -58,13 +54,13 @@ char-back b s h =
     (λ f. rw (e, f) (parse-space 95 s refl ∙ ap (λ c. onto c (parse s)) (sym (eqb-true b 32 f))))
     (λ f. by-test (eqb (letterOf b) 0)
     (λ g. let n = number-back b s h in
-    rw (e, f, g) (parse-number (digits b s) (n .0) refl (rw (n .1) (leb-true b 127 (char-most b h))) ∙ ap (λ c. onto c (parse s)) (n .1)))
+    rw (e, f, g) (parse-number (digits b s) (n .0) refl (rw (n .1) (char-most b h)) ∙ ap (λ c. onto c (parse s)) (n .1)))
     (λ g. let l = short-back b h g in
     rw (e, f, g) (parse-short (letterOf b ∷ 35 ∷ s) (rw short-is (l .1)) ∙ ap (λ c. onto c (parse s)) (short-is (letterOf b) s ∙ l .0)))))
 
 -- ---- a text
 
-pub parse-coded : (s : List ℕ) → all isChar s ≡ true → parse (coded s) ≡ some s
+parse-coded : (s : List ℕ) → all isChar s ≡ true → parse (coded s) ≡ some s
 unfolding all coded parse parsedAfter onto
 parse-coded [] h = refl
 parse-coded (b ∷ s) h =
@@ -77,7 +73,7 @@ decoded-coded s h = decoded-parsed (coded s) s (parse-coded s h)
 
 -- of a number where none was needed, and of a text that does not parse
 pub not-coded-decoded : (coded (decoded (bytes "#097#")) ≡ bytes "#097#" → ⊥) × (coded (decoded (bytes "#")) ≡ bytes "#" → ⊥)
-unfolding bytes member decoded orAsItStands parse parsedAfter onto isShortGroup charOf charIn foldCase between short isNumberGroup numberOf isDigit coded codeChar isPlain isChar isControl isSpecial letterOf letterIn numbered
+unfolding bytes member decoded orAsItStands parse parsedAfter onto isShortGroup charOf charIn foldCase between short isNumberGroup digitsNumber isDigit coded codeChar isPlain isChar isControl letterOf letterIn numbered
 not-coded-decoded = (
   λ h. let z : _≡_ {A = ℕ} 97 35 = ap (λ (s : List ℕ). getD s 0 0) h in omega arith,
   λ h. let z : _≡_ {A = ℕ} 104 0 = ap (λ (s : List ℕ). getD s 1 0) h in omega arith,

@@ -1,43 +1,26 @@
 -- Laws of coding: tests of a character, computed; the answer for a text and a buffer; and a step of each loop.
 -- Assumes nothing.
 use mathlib.Core.Path.{_≡_, refl, sym, ap, _∙_}
-use Prim.Native.Nat.{ℕ, _+_, _≤_, _<_, zero-le}
-use mathlib.Core.Bool.{Bool, true, false, _||_, Bool·beq}
+use Prim.Native.Nat.{ℕ, _+_, _≤_, _<_}
+use mathlib.Core.Bool.{true, false}
 use mathlib.Core.List.{List, [], _++_, append-assoc, append-nil}
 use native.Mathlib.Numerals.{add-one}
 use native.Mathlib.Omega.{arith}
-use borrow.Author.Tests.{le-leb, leb-true, le-ltb, lt-leb, lt-ltb, ne-eqb}
-use lib.Dec.{T, eqb, ltb}
+use borrow.Author.Tests.{le-ltb, lt-ltb, ne-eqb}
+use lib.Dec.{eqb, ltb}
 use lib.ListN.{length, drop, getD, length-append, drop-of-length-le}
 use lib.Seq.{drop-cons}
+use Rattle.chars.specs.Class.{highestCode, isChar}
 use Rattle.chars.specs.Lists.{all}
 use Rattle.chars.specs.Write.{Wrote}
 use Rattle.chars.proofs.Laws.Lists.{all-step, by-test, true-not-false}
-use Rattle.chars.proofs.Laws.Class.{matches, on-range, on-range-but}
+use Rattle.chars.proofs.Laws.Class.{is-char, no-char}
 use Rattle.chars.proofs.Laws.Write.{wrote-nothing, wrote-then}
 use Rattle.restricted.specs.Answers.{codedAnswer, shortAnswer}
-use Rattle.restricted.specs.Code.{codeChar, coded, isChar, isPlain}
+use Rattle.restricted.specs.Code.{codeChar, coded, isPlain}
 use Rattle.restricted.specs.declared.convert.RestrictedAnswer.the-variants.{ByteOver127, Done}
 
 -- ---- a character
-
--- two tests are the same at each character where they are computed to be
-pub at-char : (p q : ℕ → Bool) → T (matches p q 0 128) → (b : ℕ) → isChar b ≡ true → p b ≡ q b
-unfolding isChar
-at-char p q t b h = on-range p q 0 128 t b zero-le (omega (arith, leb-true b 127 h))
-
--- the same, but for the characters at which r passes
-pub at-char-but : (r p q : ℕ → Bool) → T (matches (λ b. r b || Bool·beq (p b) (q b)) (λ _. true) 0 128) → (b : ℕ) → isChar b ≡ true → r b ≡ false → p b ≡ q b
-unfolding isChar
-at-char-but r p q t b h e = on-range-but r p q 0 128 t b zero-le (omega (arith, leb-true b 127 h)) e
-
-pub is-char : (b : ℕ) → b ≤ 127 → isChar b ≡ true
-unfolding isChar
-is-char b h = le-leb b 127 h
-
-pub no-char : (b : ℕ) → 127 < b → isChar b ≡ false
-unfolding isChar
-no-char b h = lt-leb b 127 h
 
 -- what does not stand for itself is no character that does
 pub differs : (b k : ℕ) → isPlain b ≡ false → isPlain k ≡ true → eqb b k ≡ false
@@ -45,10 +28,10 @@ differs b k e f = ne-eqb b k (λ q. true-not-false (isPlain k) f (sym (ap isPlai
 
 -- ---- what a loop has left of a text
 
-pub chars-step : (s : List ℕ) (i : ℕ) → i < length s → getD s i 0 ≤ 127 → all isChar (drop i s) ≡ all isChar (drop (i + 1) s)
+pub chars-step : (s : List ℕ) (i : ℕ) → i < length s → getD s i 0 ≤ highestCode → all isChar (drop i s) ≡ all isChar (drop (i + 1) s)
 chars-step s i h k = all-step isChar s i 0 h ∙ rw (is-char (getD s i 0) k)
 
-pub chars-stop : (s : List ℕ) (i : ℕ) → i < length s → 127 < getD s i 0 → all isChar (drop i s) ≡ false
+pub chars-stop : (s : List ℕ) (i : ℕ) → i < length s → highestCode < getD s i 0 → all isChar (drop i s) ≡ false
 chars-stop s i h k = all-step isChar s i 0 h ∙ rw (no-char (getD s i 0) k)
 
 pub coded-step : (s : List ℕ) (i : ℕ) → i < length s → coded (drop i s) ≡ codeChar (getD s i 0) ++ coded (drop (i + 1) s)

@@ -8,19 +8,20 @@ use native.Mathlib.Omega.{arith}
 use borrow.Author.Tests.{eqb-true, le-ltb, lt-ltb, ltb-false}
 use lib.Dec.{eqb, ltb}
 use lib.ListN.{length, take}
+use Rattle.chars.specs.Class.{isChar}
 use Rattle.chars.specs.Lists.{all}
 use Rattle.chars.specs.Write.{TextResult, Wrote, front, placedText, refusedText}
+use Rattle.chars.proofs.Laws.Class.{is-char}
 use Rattle.chars.proofs.Laws.Lists.{all-weaken, by-test, or-cases}
 use Rattle.chars.proofs.Laws.Write.{take-front, wrote-front}
 use Rattle.restricted.specs.Answers.{codedAnswer, shortAnswer, told}
 use Rattle.restricted.specs.Atoms.{isCodedChar}
-use Rattle.restricted.specs.Code.{coded, decoded, isChar, isPlain}
+use Rattle.restricted.specs.Code.{coded, decoded, isPlain}
 use Rattle.restricted.specs.Convert.{restrictText, unrestrictText}
 use Rattle.restricted.specs.declared.convert.RestrictedAnswer.{RestrictedAnswer}
 use Rattle.restricted.specs.declared.convert.RestrictedAnswer.the-variants.{ByteOver127, Done, ShortBuffer}
 use Rattle.restricted.proofs.Laws.Atoms.{coded-plain}
 use Rattle.restricted.proofs.Laws.Back.{decoded-coded}
-use Rattle.restricted.proofs.Laws.Code.{is-char}
 use Rattle.restricted.proofs.Laws.Parse.{plain-char}
 
 -- ---- a text that is placed

@@ -4,9 +4,10 @@ use mathlib.Core.Path.{_≡_, refl}
 use mathlib.Core.List.{List, [], _∷_, map}
 use Prim.Native.Nat.{ℕ}
 use Rattle.chars.specs.Case.{foldCase}
-use Rattle.chars.specs.Class.{between, isDigit}
-use Rattle.chars.specs.Lists.{bytes, member}
-use Rattle.restricted.specs.Code.{charIn, charOf, codeChar, coded, decoded, isChar, isControl, isNumberGroup, isPlain, isShortGroup, isSpecial, letterIn, letterOf, numberOf, numbered, onto, orAsItStands, parse, parsedAfter, short}
+use Rattle.chars.specs.Class.{between, isChar, isDigit}
+use Rattle.chars.specs.Digits.{digitsNumber, isNumberGroup}
+use Rattle.chars.specs.Lists.{bytes, member, onto}
+use Rattle.restricted.specs.Code.{charIn, charOf, codeChar, coded, decoded, isControl, isPlain, isShortGroup, letterIn, letterOf, numbered, orAsItStands, parse, parsedAfter, short}
 
 -- a text, how it is coded, and another text that decodes to it
 pub record Example : Type 0 where
@@ -33,5 +34,5 @@ abbrev pub wanted : Example → Example
 wanted e = record { full = e .full; restricted = e .restricted; read = e .full }
 
 pub every-example : map worked examples ≡ map wanted examples
-unfolding bytes member decoded orAsItStands parse parsedAfter onto isShortGroup charOf charIn foldCase between short isNumberGroup numberOf isDigit coded codeChar isPlain isChar isControl isSpecial letterOf letterIn numbered
+unfolding bytes member decoded orAsItStands parse parsedAfter onto isShortGroup charOf charIn foldCase between short isNumberGroup digitsNumber isDigit coded codeChar isPlain isChar isControl letterOf letterIn numbered
 every-example = refl

@@ -1,30 +1,31 @@
 -- Laws of parsing: what a text stands for by its first characters, and a step of each loop.
 -- Assumes nothing.
 use mathlib.Core.Path.{_≡_, refl, sym, ap, _∙_}
-use Prim.Native.Nat.{ℕ, zero, suc, _+_, _-_, _*_, _≤_, _<_}
-use mathlib.Core.Bool.{Bool, true, false, not, _&&_, and-false, and-true, cond}
+use Prim.Native.Nat.{ℕ, zero, suc, _+_, _≤_, _<_}
+use mathlib.Core.Bool.{true, false, not, _&&_, and-false, and-true, cond}
 use mathlib.Core.List.{List, [], _∷_, _++_, append-nil}
-use mathlib.Core.Option.{Option, none, some}
+use mathlib.Core.Option.{none, some}
 use native.Mathlib.Nat.{add-zero}
-use native.Mathlib.Numerals.{add-one}
 use native.Mathlib.Omega.{arith}
 use borrow.Author.Tests.{eq-eqb, eqb-true, le-leb, leb-false, leb-true, ne-eqb}
 use lib.Dec.{eqb, leb}
 use lib.ListN.{length, drop, getD, set, length-append, drop-of-length-le}
-use lib.Seq.{append-snoc, drop-cons, drop-drop, getD-drop}
-use Rattle.chars.specs.Lists.{all, bytes, member}
+use lib.Seq.{drop-drop, getD-drop}
+use Rattle.chars.specs.Lists.{all, bytes, member, onto}
 use Rattle.chars.specs.Case.{foldCase}
-use Rattle.chars.specs.Class.{between, isDigit}
+use Rattle.chars.specs.Class.{highestCode, isChar, isDigit}
+use Rattle.chars.specs.Digits.{digitsNumber, isNumberGroup, threeDigits}
 use Rattle.chars.specs.Write.{Wrote}
-use Rattle.chars.proofs.Laws.Lists.{and-left, and-right, and-three, by-test, true-not-false}
+use Rattle.chars.proofs.Laws.Lists.{all-two, and-left, and-right, by-test, true-not-false}
 use Rattle.chars.proofs.Laws.Case.{fold-high}
-use Rattle.chars.proofs.Laws.Class.{digit-below}
+use Rattle.chars.proofs.Laws.Class.{digit-below, is-char}
+use Rattle.chars.proofs.Laws.Digits.{is-number, number-digits, number-value}
+use Rattle.chars.proofs.Laws.Options.{ahead, ahead-length, ahead-nothing, ahead-onto, none-some}
 use Rattle.chars.proofs.Laws.Write.{wrote-nothing, wrote-one, wrote-then}
-use Rattle.restricted.specs.Answers.{Grouped, Measured, fromGroup, shortGroup, threeDigits, unparsedAnswer}
-use Rattle.restricted.specs.Code.{charIn, charOf, decoded, isChar, isControl, isNumberGroup, isPlain, isShortGroup, isSpecial, numberOf, onto, orAsItStands, parse, parsedAfter, short, shortForms}
+use Rattle.restricted.specs.Answers.{Grouped, Measured, fromGroup, shortGroup, unparsedAnswer}
+use Rattle.restricted.specs.Code.{charIn, charOf, decoded, isControl, isPlain, isShortGroup, orAsItStands, parse, parsedAfter, short, shortForms}
 use Rattle.restricted.specs.declared.parse.Group.{Group}
 use Rattle.restricted.specs.declared.parse.Parsed.{Parsed}
-use Rattle.restricted.proofs.Laws.Code.{is-char}
 
 -- ---- what a text stands for, by its first characters
 
@@ -42,27 +43,13 @@ short-char : (s : List ℕ) → (shortGroup s ≡ 0 → ⊥) → charOf (getD s 
 unfolding shortGroup
 short-char s h = by-test (eqb (getD s 1 0) 35) (λ e. rw e) (λ e. absurd (h (rw e)))
 
-is-number : (s : List ℕ) → isNumberGroup s ≡ (eqb (getD s 3 0) 35 && leb (threeDigits s) 127)
-unfolding isNumberGroup threeDigits
-is-number s =
-    by-test (isDigit (getD s 0 0) && isDigit (getD s 1 0) && isDigit (getD s 2 0))
-    (λ e. rw e)
-    (λ e. rw (e, and-false (eqb (getD s 3 0) 35)))
-
-number-value : (s : List ℕ) → threeDigits s ≤ 127 → numberOf s ≡ threeDigits s
-unfolding threeDigits
-number-value s h =
-    by-test (isDigit (getD s 0 0) && isDigit (getD s 1 0) && isDigit (getD s 2 0))
-    (λ e. rw e)
-    (λ e. let k : 999 ≤ 127 = rw e at h in absurd (omega arith))
-
 -- neither `_` nor `#` stands for itself
 hash-coded : isPlain 35 ≡ false
-unfolding isPlain isChar isControl isSpecial bytes member
+unfolding isPlain isChar isControl bytes member
 hash-coded = refl
 
 space-coded : isPlain 95 ≡ false
-unfolding isPlain isChar isControl isSpecial bytes member
+unfolding isPlain isChar isControl bytes member
 space-coded = refl
 
 pub parse-plain : (x : ℕ) (s : List ℕ) → isPlain x ≡ true → parse (x ∷ s) ≡ onto x (parse s)
@@ -73,12 +60,12 @@ pub parse-space : (x : ℕ) (s : List ℕ) → x ≡ 95 → parse (x ∷ s) ≡ 
 unfolding parse parsedAfter
 parse-space x s e = rw (ap isPlain e ∙ space-coded, eq-eqb x 95 e)
 
-pub parse-other : (x : ℕ) (s : List ℕ) → isPlain x ≡ false → (x ≡ 95 → ⊥) → (x ≡ 35 → ⊥) → parse (x ∷ s) ≡ none
+parse-other : (x : ℕ) (s : List ℕ) → isPlain x ≡ false → (x ≡ 95 → ⊥) → (x ≡ 35 → ⊥) → parse (x ∷ s) ≡ none
 unfolding parse parsedAfter
 parse-other x s e f g = rw (e, ne-eqb x 95 f, ne-eqb x 35 g)
 
 parse-hash : (x : ℕ) (s : List ℕ) → x ≡ 35
-    → parse (x ∷ s) ≡ cond (isShortGroup s) (onto (charOf (getD s 0 0)) (parse (drop 2 s))) (cond (isNumberGroup s) (onto (numberOf s) (parse (drop 4 s))) none)
+    → parse (x ∷ s) ≡ cond (isShortGroup s) (onto (charOf (getD s 0 0)) (parse (drop 2 s))) (cond (isNumberGroup 35 s) (onto (digitsNumber s) (parse (drop 4 s))) none)
 unfolding parse parsedAfter
 parse-hash x s e =
     rw (ap isPlain e ∙ hash-coded, ne-eqb x 95 (λ q. absurd (omega arith)), eq-eqb x 35 e, after-drop 2 s, after-drop 4 s)
@@ -87,24 +74,13 @@ module _ (s : List ℕ) where
   pub parse-short : (shortGroup s ≡ 0 → ⊥) → parse (35 ∷ s) ≡ onto (shortGroup s) (parse (drop 2 s))
   parse-short h = parse-hash 35 s refl ∙ rw (is-short s, ne-eqb (shortGroup s) 0 h, short-char s h)
 
-  pub parse-number : shortGroup s ≡ 0 → getD s 3 0 ≡ 35 → threeDigits s ≤ 127 → parse (35 ∷ s) ≡ onto (threeDigits s) (parse (drop 4 s))
-  parse-number z k h = parse-hash 35 s refl ∙ rw (is-short s, z, is-number s, k, le-leb (threeDigits s) 127 h, number-value s h)
+  pub parse-number : shortGroup s ≡ 0 → getD s 3 0 ≡ 35 → threeDigits s ≤ highestCode → parse (35 ∷ s) ≡ onto (threeDigits s) (parse (drop 4 s))
+  parse-number z k h = parse-hash 35 s refl ∙ rw (is-short s, z, is-number 35 s, k, le-leb (threeDigits s) highestCode h, number-value s h)
 
-  pub parse-none : shortGroup s ≡ 0 → (eqb (getD s 3 0) 35 && leb (threeDigits s) 127) ≡ false → parse (35 ∷ s) ≡ none
-  parse-none z k = parse-hash 35 s refl ∙ rw (is-short s, z, is-number s, k)
+  parse-none : shortGroup s ≡ 0 → (eqb (getD s 3 0) 35 && leb (threeDigits s) highestCode) ≡ false → parse (35 ∷ s) ≡ none
+  parse-none z k = parse-hash 35 s refl ∙ rw (is-short s, z, is-number 35 s, k)
 
 -- ---- a group has no byte over 127
-
--- the first byte, where 0 passes the test
-all-first : (p : ℕ → Bool) → p 0 ≡ true → (s : List ℕ) → all p s ≡ (p (getD s 0 0) && all p (drop 1 s))
-unfolding all
-all-first p z [] = rw z
-all-first p z (x ∷ s) = refl
-
-all-two : (p : ℕ → Bool) → p 0 ≡ true → (s : List ℕ) → p (getD s 0 0) ≡ true → p (getD s 1 0) ≡ true → all p s ≡ all p (drop 2 s)
-all-two p z s a b =
-    all-first p z s
-    ∙ rw (a, all-first p z (drop 1 s), getD-drop 1 s 0 0, b, drop-drop 1 1 s)
 
 zero-char : isChar 0 ≡ true
 unfolding isChar
@@ -124,9 +100,9 @@ plain-char x h = by-test (isChar x) (λ e. e) (λ e. true-not-false true refl (s
 -- a byte that folds to a character is one
 fold-char : (l : ℕ) → isChar (foldCase l) ≡ true → isChar l ≡ true
 fold-char l h =
-    by-test (leb l 127)
-    (λ e. is-char l (leb-true l 127 e))
-    (λ e. rw (fold-high l (omega (arith, leb-false l 127 e))) at h)
+    by-test (leb l highestCode)
+    (λ e. is-char l (leb-true l highestCode e))
+    (λ e. rw (fold-high l (omega (arith, leb-false l highestCode e))) at h)
 
 -- no letter of a short form is over 127
 in-char : (l : ℕ) (fs : List (ℕ × ℕ)) → all (λ f. isChar (f .0)) fs ≡ true → (charIn l fs ≡ 0 → ⊥) → isChar l ≡ true
@@ -154,16 +130,14 @@ module _ (s : List ℕ) where
       (all-two isChar zero-char s (letter-char (getD s 0 0) (rw e at h)) (ap isChar (eqb-true (getD s 1 0) 35 e) ∙ hash-char)))
       (λ e. absurd (h (rw e)))
 
-  chars-number : getD s 3 0 ≡ 35 → threeDigits s ≤ 127 → all isChar (35 ∷ s) ≡ all isChar (drop 4 s)
-  unfolding all threeDigits
+  chars-number : getD s 3 0 ≡ 35 → threeDigits s ≤ highestCode → all isChar (35 ∷ s) ≡ all isChar (drop 4 s)
+  unfolding all
   chars-number k h =
-      by-test (isDigit (getD s 0 0) && isDigit (getD s 1 0) && isDigit (getD s 2 0))
-      (λ e. let d = and-three (isDigit (getD s 0 0)) (isDigit (getD s 1 0)) (isDigit (getD s 2 0)) e in
+      let d = number-digits s h in
       rw hash-char
       (all-two isChar zero-char s (digit-char (getD s 0 0) (d .0)) (digit-char (getD s 1 0) (d .1))
       ∙ all-two isChar zero-char (drop 2 s) (rw (getD-drop 2 s 0 0) (digit-char (getD s 2 0) (d .2))) (rw (getD-drop 2 s 1 0, k) hash-char)
-      ∙ rw (drop-drop 2 2 s)))
-      (λ e. let z : 999 ≤ 127 = rw e at h in absurd (omega arith))
+      ∙ rw (drop-drop 2 2 s))
 
 -- ---- the group that a text begins with
 
@@ -184,38 +158,15 @@ module _ (s : List ℕ) where
   unfolding fromGroup
   group-short h = record { fits = omega arith; holds = parse-short s h; chars = λ _. chars-short s h }
 
-  pub group-number : shortGroup s ≡ 0 → getD s 3 0 ≡ 35 → threeDigits s ≤ 127 → Grouped (35 ∷ s) (record { char = threeDigits s; len = 5 })
+  pub group-number : shortGroup s ≡ 0 → getD s 3 0 ≡ 35 → threeDigits s ≤ highestCode → Grouped (35 ∷ s) (record { char = threeDigits s; len = 5 })
   unfolding fromGroup
   group-number z k h = record { fits = omega arith; holds = parse-number s z k h; chars = λ _. chars-number s k h }
 
-  pub group-none : shortGroup s ≡ 0 → (eqb (getD s 3 0) 35 && leb (threeDigits s) 127) ≡ false → Grouped (35 ∷ s) (record { char = 0; len = 0 })
+  pub group-none : shortGroup s ≡ 0 → (eqb (getD s 3 0) 35 && leb (threeDigits s) highestCode) ≡ false → Grouped (35 ∷ s) (record { char = 0; len = 0 })
   unfolding fromGroup
   group-none z k = record { fits = omega arith; holds = parse-none s z k; chars = λ z. absurd (z refl) }
 
 -- ---- the loops: what the text up to place i stands for
-
--- a text in front of what the rest stands for, if it parses
-unfoldable pub ahead : List ℕ → Option (List ℕ) → Option (List ℕ)
-ahead s none = none
-ahead s (some t) = some (s ++ t)
-
-ahead-nothing : (o : Option (List ℕ)) → o ≡ ahead [] o
-unfolding ahead
-ahead-nothing none = refl
-ahead-nothing (some t) = refl
-
-ahead-onto : (s : List ℕ) (b : ℕ) (o : Option (List ℕ)) → ahead s (onto b o) ≡ ahead (s ++ b ∷ []) o
-unfolding ahead onto
-ahead-onto s b none = refl
-ahead-onto s b (some t) = rw append-snoc
-
-none-some : {X : Type 0} {t : List ℕ} → _≡_ {A = Option (List ℕ)} none (some t) → X
-none-some h = let z : _≡_ {A = ℕ} 0 1 = cc in absurd (omega arith)
-
-ahead-length : (s : List ℕ) (o : Option (List ℕ)) (t : List ℕ) → ahead s o ≡ some t → length s ≤ length t
-unfolding ahead
-ahead-length s none t h = none-some h
-ahead-length s (some u) t h = let e : s ++ u ≡ t = cc in omega (arith, ap length e, length-append s u)
 
 pub record ParsedTo (s : List ℕ) (i n : ℕ) : Type 0 where
   pub text : List ℕ
@@ -283,18 +234,6 @@ measured-none s t r p e h =
 
 -- ---- what the code reads at a place
 
-pub digit-range : (b : ℕ) → isDigit b ≡ true → (48 ≤ b) × (b ≤ 57)
-unfolding isDigit between
-digit-range b h = (leb-true 48 b (and-left (leb 48 b) (leb b 57) h), leb-true b 57 (and-right (leb 48 b) (leb b 57) h))
-
 pub short-there : (s : List ℕ) (i : ℕ) → shortGroup (drop i s) ≡ cond (eqb (getD s (i + 1) 0) 35) (charOf (getD s i 0)) 0
 unfolding shortGroup
 short-there s i = rw (getD-drop i s 0 0, getD-drop i s 1 0, add-zero)
-
-pub digits-there : (s : List ℕ) (i : ℕ) → threeDigits (drop i s) ≡ cond (isDigit (getD s i 0) && isDigit (getD s (i + 1) 0) && isDigit (getD s (i + 2) 0)) ((getD s i 0 - 48) * 100 + (getD s (i + 1) 0 - 48) * 10 + (getD s (i + 2) 0 - 48)) 999
-unfolding threeDigits numberOf
-digits-there s i = rw (getD-drop i s 0 0, getD-drop i s 1 0, getD-drop i s 2 0, add-zero)
-
--- the first character, and the rest
-pub front-there : (s : List ℕ) (i : ℕ) → i < length s → drop i s ≡ getD s i 0 ∷ drop (i + 1) s
-front-there s i h = rw add-one (drop-cons s i 0 h)

@@ -7,8 +7,11 @@ use native.Mathlib.Omega.{arith}
 use borrow.Author.Tests.{lt-leb, ne-eqb}
 use borrow.Author.Needs.{needs}
 use lib.ListN.{getD, drop}
-use Rattle.mailaddr.specs.Answers.{fromGroup, threeDigits}
-use Rattle.mailaddr.proofs.Laws.Code.{close-there, front-there, group-close, group-letter, group-none, group-number, group-plain}
+use Rattle.chars.specs.Class.{highestCode}
+use Rattle.chars.specs.Digits.{threeDigits}
+use Rattle.chars.proofs.Laws.Seq.{front-there}
+use Rattle.mailaddr.specs.Answers.{fromGroup}
+use Rattle.mailaddr.proofs.Laws.Code.{close-there, group-close, group-letter, group-none, group-number, group-plain}
 use Rattle.mailaddr.proofs.code.group_at.Statement.{statement}
 use Rattle.mailaddr.proofs.code.group_at.Tie as tie
 
@@ -78,7 +81,7 @@ returns-5 c =
     let a = b .before .before .args in
     let s = a .s .now in
     let i = a .at in
-    record { fits = omega arith; holds = rw (front-there s i (omega arith)) (group-none (getD s i 0) (drop (i + 1) s) (sym (b .byte-at .ensures) ∙ d .before .if2 .left) (sym (d .letter-at .ensures) ∙ c .before .before .before .before .if3 .left) (rw (lt-leb (threeDigits (drop (i + 1) s)) 127 (omega (arith, c .before .number-at .ensures)), and-false))) }
+    record { fits = omega arith; holds = rw (front-there s i (omega arith)) (group-none (getD s i 0) (drop (i + 1) s) (sym (b .byte-at .ensures) ∙ d .before .if2 .left) (sym (d .letter-at .ensures) ∙ c .before .before .before .before .if3 .left) (rw (lt-leb (threeDigits (drop (i + 1) s)) highestCode (omega (arith, c .before .number-at .ensures)), and-false))) }
 
 cast-t8 : tie.Need-cast-t8
 cast-t8 c = search needs

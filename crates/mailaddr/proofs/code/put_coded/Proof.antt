@@ -7,14 +7,14 @@ use native.Mathlib.Omega.{arith}
 use borrow.Author.Needs.{needs}
 use lib.ListN.{length, getD}
 use Rattle.chars.specs.Write.{Wrote}
-use Rattle.chars.proofs.Laws.Write.{wrote-length}
-use Rattle.mailaddr.specs.Code.{coded, codedChar}
-use Rattle.mailaddr.proofs.Laws.Code.{CodedTo, char-length, coding-end, coding-start, coding-step, sets-front}
+use Rattle.chars.proofs.Laws.Write.{sets-front, wrote-length}
+use Rattle.mailaddr.specs.Code.{coded, codedChar, longestCodedChar}
+use Rattle.mailaddr.proofs.Laws.Code.{CodedTo, char-length, coding-end, coding-start, coding-step}
 use Rattle.mailaddr.proofs.code.put_coded.Statement.{statement}
 use Rattle.mailaddr.proofs.code.put_coded.Tie as tie
 
 abbrev Inv-loop : tie.InvT-loop
-Inv-loop dst₀ s at₀ spaced₀ i₀ dst at spaced i = (at ≤ 5 * i) × (i ≤ length s) × (length dst ≡ length dst₀) × (CodedTo s dst₀ spaced i at dst)
+Inv-loop dst₀ s at₀ spaced₀ i₀ dst at spaced i = (at ≤ longestCodedChar * i) × (i ≤ length s) × (length dst ≡ length dst₀) × (CodedTo s dst₀ spaced i at dst)
 
 abbrev μ-loop : tie.MeasureT-loop
 μ-loop dst₀ s at₀ spaced₀ i₀ dst at spaced i = length s - i

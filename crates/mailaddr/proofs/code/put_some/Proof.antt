@@ -8,7 +8,7 @@ use native.Mathlib.Omega.{arith}
 use borrow.Author.Needs.{needs}
 use lib.ListN.{length, take, drop, length-set, length-take, drop-of-length-le}
 use lib.Seq.{sets}
-use Rattle.mailaddr.proofs.Laws.Code.{sets-more, sets-out}
+use Rattle.chars.proofs.Laws.Write.{sets-more, sets-out}
 use Rattle.mailaddr.proofs.code.put_some.Statement.{statement}
 use Rattle.mailaddr.proofs.code.put_some.Tie as tie
 

@@ -6,13 +6,14 @@ use borrow.Author.Tests.{lt-ltb}
 use borrow.Author.Needs.{needs}
 use lib.ListN.{length}
 use Rattle.mailaddr.specs.Answers.{shapeAnswer, shaping}
+use Rattle.mailaddr.specs.Shape.{longestAddress}
 use Rattle.mailaddr.proofs.Laws.Shape.{shaping-plain, shaping-quoted}
 use Rattle.mailaddr.proofs.shape.read_shape.Statement.{statement}
 use Rattle.mailaddr.proofs.shape.read_shape.Tie as tie
 
 returns : tie.Need-returns
 unfolding shapeAnswer shaping
-returns c = rw (lt-ltb 2048 (length (c .before .before .args .s .now)) (omega arith))
+returns c = rw (lt-ltb longestAddress (length (c .before .before .args .s .now)) (omega arith))
 
 byte-at-requires : tie.Need-byte-at-requires
 byte-at-requires c κs = search needs

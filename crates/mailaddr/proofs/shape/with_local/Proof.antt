@@ -12,7 +12,7 @@ use Rattle.chars.specs.Parts.{isAtoms}
 use Rattle.chars.proofs.Laws.Lists.{failed, passed}
 use Rattle.mailaddr.specs.Shape.{withLocal}
 use Rattle.mailaddr.specs.Answers.{addressAt, fromShape, shapeAnswer}
-use Rattle.mailaddr.proofs.Laws.Shape.{rest-of}
+use Rattle.chars.proofs.Laws.Seq.{rest-of}
 use Rattle.mailaddr.proofs.shape.with_local.Statement.{statement}
 use Rattle.mailaddr.proofs.shape.with_local.Tie as tie
 

@@ -4,9 +4,9 @@ use Prim.Native.Nat.{_-_}
 use mathlib.Core.Path.{_≡_, refl, sym, _∙_}
 use native.Mathlib.Omega.{arith}
 use lib.ListN.{length, drop}
+use Rattle.chars.specs.Class.{isChar}
 use Rattle.chars.specs.Lists.{all}
 use Rattle.chars.proofs.Laws.Lists.{all-end}
-use Rattle.restricted.specs.Code.{isChar}
 use Rattle.restricted.proofs.Laws.Code.{chars-step, chars-stop}
 use Rattle.restricted.proofs.code.all_chars.Statement.{statement}
 use Rattle.restricted.proofs.code.all_chars.Tie as tie

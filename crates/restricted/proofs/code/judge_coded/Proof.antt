@@ -5,9 +5,10 @@ use Prim.Native.Nat.{_+_, _-_}
 use mathlib.Core.Path.{_≡_, refl, sym, ap, _∙_}
 use native.Mathlib.Omega.{arith}
 use lib.ListN.{length, drop}
+use Rattle.chars.specs.Class.{isChar}
 use Rattle.chars.specs.Lists.{all}
 use Rattle.chars.proofs.Laws.Lists.{all-end}
-use Rattle.restricted.specs.Code.{coded, isChar}
+use Rattle.restricted.specs.Code.{coded}
 use Rattle.restricted.proofs.Laws.Code.{answer-done, answer-high, answer-short, chars-step, chars-stop, coded-end, size-step}
 use Rattle.restricted.proofs.code.judge_coded.Statement.{statement}
 use Rattle.restricted.proofs.code.judge_coded.Tie as tie

@@ -8,7 +8,9 @@ use borrow.Author.Tests.{lt-leb, ne-eqb}
 use borrow.Author.Needs.{needs}
 use lib.ListN.{drop, getD}
 use lib.Seq.{getD-drop}
-use Rattle.restricted.specs.Answers.{shortGroup, threeDigits}
+use Rattle.chars.specs.Class.{highestCode}
+use Rattle.chars.specs.Digits.{threeDigits}
+use Rattle.restricted.specs.Answers.{shortGroup}
 use Rattle.restricted.proofs.Laws.Parse.{group-none, group-number, group-short}
 use Rattle.restricted.proofs.parse.behind_hash.Statement.{statement}
 use Rattle.restricted.proofs.parse.behind_hash.Tie as tie
@@ -50,7 +52,7 @@ returns-3 c =
     let a = n .before .before .before .args in
     let s = drop (a .at) (a .s .now) in
     group-none s (no-short n)
-    (rw (lt-leb (threeDigits s) 127 (omega (arith, c .before .number-at .ensures)), and-false))
+    (rw (lt-leb (threeDigits s) highestCode (omega (arith, c .before .number-at .ensures)), and-false))
 
 cast-t6 : tie.Need-cast-t6
 cast-t6 c = search needs

@@ -5,7 +5,8 @@ use Prim.Native.Nat.{_+_}
 use native.Mathlib.Omega.{arith}
 use borrow.Author.Needs.{needs}
 use lib.ListN.{drop, getD}
-use Rattle.restricted.proofs.Laws.Parse.{front-there, group-other, group-plain, group-space}
+use Rattle.chars.proofs.Laws.Seq.{front-there}
+use Rattle.restricted.proofs.Laws.Parse.{group-other, group-plain, group-space}
 use Rattle.restricted.proofs.parse.group_at.Statement.{statement}
 use Rattle.restricted.proofs.parse.group_at.Tie as tie
 

@@ -5,9 +5,9 @@ use mathlib.Core.Path.{_∙_}
 use Prim.Native.Nat.{_-_, _≤_}
 use native.Mathlib.Omega.{arith}
 use lib.ListN.{length, drop}
+use Rattle.chars.specs.Class.{isChar}
 use Rattle.chars.proofs.Laws.Lists.{all-end}
 use Rattle.restricted.specs.Answers.{Measured}
-use Rattle.restricted.specs.Code.{isChar}
 use Rattle.restricted.proofs.Laws.Parse.{ParsedTo, measured-none, parsing-end, parsing-none, parsing-start, parsing-step}
 use Rattle.restricted.proofs.parse.measure_parsed.Statement.{statement}
 use Rattle.restricted.proofs.parse.measure_parsed.Tie as tie

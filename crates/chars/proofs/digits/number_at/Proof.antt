@@ -1,4 +1,4 @@
--- `restricted::parse::number_at` meets its contract: its tests are those of `threeDigits`, and a digit is no less than `0`.
+-- `chars::digits::number_at` meets its contract: its tests are those of `threeDigits`, and a digit is no less than `0`.
 -- Assumes nothing.
 use mathlib.Core.Path.{_≡_, sym}
 use Prim.Native.Nat.{_+_}
@@ -6,11 +6,12 @@ use mathlib.Core.Bool.{true, false, and-false}
 use native.Mathlib.Omega.{arith}
 use borrow.Author.Needs.{needs}
 use lib.ListN.{getD}
 use Rattle.chars.specs.Class.{isDigit}
 use Rattle.chars.proofs.Laws.Lists.{failed, passed}
-use Rattle.restricted.proofs.Laws.Parse.{digit-range, digits-there}
-use Rattle.restricted.proofs.parse.number_at.Statement.{statement}
-use Rattle.restricted.proofs.parse.number_at.Tie as tie
+use Rattle.chars.proofs.Laws.Class.{digit-range}
+use Rattle.chars.proofs.Laws.Digits.{digits-there}
+use Rattle.chars.proofs.digits.number_at.Statement.{statement}
+use Rattle.chars.proofs.digits.number_at.Tie as tie
 
 byte-at-requires : tie.Need-byte-at-requires
 byte-at-requires c κs = search needs
