@@ -13,16 +13,24 @@ use oraddr::value::OrgUnit;
 use oraddr::value::Value;
 use oraddr::value::held;
 ghost use mathlib.Core.Path.{_≡_};
+ghost use lib.ListN.{take};
 ghost use Rattle.chars.specs.Case.{agree, equalText, sameText};
 ghost use Rattle.oraddr.specs.Same.{sameDd, sameRecord};
 ghost use Rattle.oraddr.specs.View.{ddValueView, ddView, ddsView, kindView, singlesView, unitView, unitsView, valueView};
+
+// Whether the texts at the fronts of two rooms are the same.
+fn same_held(x: &[u8], n: usize, y: &[u8], m: usize) -> bool
+    ensures { λ r. ⌜ r ≡ sameText (take n (now (x .entry))) (take m (now (y .entry))) ⌝ }
+{
+    same_text(held(x, n), held(y, m))
+}
 
 fn same_value(a: Value, b: Value) -> bool
     ensures { λ r. ⌜ r ≡ sameText (valueView a) (valueView b) ⌝ }
 {
     let x = a.bytes;
     let y = b.bytes;
-    same_text(held(&x, a.len), held(&y, b.len))
+    same_held(&x, a.len, &y, b.len)
 }
 
 fn same_unit(a: OrgUnit, b: OrgUnit) -> bool
@@ -30,7 +38,7 @@ fn same_unit(a: OrgUnit, b: OrgUnit) -> bool
 {
     let x = a.bytes;
     let y = b.bytes;
-    same_text(held(&x, a.len), held(&y, b.len))
+    same_held(&x, a.len, &y, b.len)
 }
 
 fn same_kind(a: DdType, b: DdType) -> bool
@@ -38,7 +46,7 @@ fn same_kind(a: DdType, b: DdType) -> bool
 {
     let x = a.bytes;
     let y = b.bytes;
-    same_text(held(&x, a.len), held(&y, b.len))
+    same_held(&x, a.len, &y, b.len)
 }
 
 // A DD's value is compared byte for byte.

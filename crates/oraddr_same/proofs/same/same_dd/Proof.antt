@@ -1,28 +1,28 @@
--- `DomainDefined::same` meets its contract: the types and then the values are compared.
+-- `same_dd` meets its contract: the types and then the values are compared.
 -- Assumes nothing.
 use mathlib.Core.Path.{sym, _∙_}
 use borrow.Author.Needs.{needs}
 use borrow.Author.Tests.{not-false, not-true}
 use Rattle.oraddr.specs.Same.{sameDd}
 use Rattle.oraddr.specs.View.{ddView}
-use Rattle.oraddr.proofs.value.DomainDefined.same.Statement.{statement}
-use Rattle.oraddr.proofs.value.DomainDefined.same.Tie as tie
+use Rattle.oraddr_same.proofs.same.same_dd.Statement.{statement}
+use Rattle.oraddr_same.proofs.same.same_dd.Tie as tie
 
-same-requires : tie.Need-same-requires
-same-requires c κs = search needs
+same-kind-requires : tie.Need-same-kind-requires
+same-kind-requires c κs = search needs
 
 returns : tie.Need-returns
 unfolding sameDd ddView
-returns c = rw (sym (c .before .same .ensures) ∙ not-true (c .before .same .result) (c .if1 .taken))
+returns c = rw (sym (c .before .same-kind .ensures) ∙ not-true (c .before .same-kind .result) (c .if1 .taken))
 
-same-requires-2 : tie.Need-same-requires-2
-same-requires-2 c κs = search needs
+equal-dd-value-requires : tie.Need-equal-dd-value-requires
+equal-dd-value-requires c κs = search needs
 
 returns-2 : tie.Need-returns-2
 unfolding sameDd ddView
 returns-2 c =
-    let at = c .before .before .before in
-    rw (sym (at .before .same .ensures) ∙ not-false (at .before .same .result) (at .if1 .left)) (c .same2 .ensures)
+    let at = c .before in
+    rw (sym (at .before .same-kind .ensures) ∙ not-false (at .before .same-kind .result) (at .if1 .left)) (c .equal-dd-value .ensures)
 
-pub same-spec : {M : Type 1} → statement M
-same-spec = tie.close (tie.spec same-requires returns same-requires-2 returns-2)
+pub same-dd-spec : {M : Type 1} → statement M
+same-dd-spec = tie.close (tie.spec same-kind-requires returns equal-dd-value-requires returns-2)

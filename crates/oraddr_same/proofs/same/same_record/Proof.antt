@@ -1,39 +1,39 @@
--- `Record::same` meets its contract: the attributes that a record has once, the units and the DDs are compared in turn.
+-- `same_record` meets its contract: the attributes that a record has once, the units and the DDs are compared in turn.
 -- Assumes nothing.
 use mathlib.Core.Path.{sym, _∙_}
 use borrow.Author.Needs.{needs}
 use borrow.Author.Tests.{not-false, not-true}
 use Rattle.oraddr.specs.Same.{sameAttributes, sameRecord}
 use Rattle.oraddr.specs.View.{view}
-use Rattle.oraddr.proofs.record.Record.same.Statement.{statement}
-use Rattle.oraddr.proofs.record.Record.same.Tie as tie
+use Rattle.oraddr_same.proofs.same.same_record.Statement.{statement}
+use Rattle.oraddr_same.proofs.same.same_record.Tie as tie
 
-same-requires : tie.Need-same-requires
-same-requires c κs = search needs
+same-singles-requires : tie.Need-same-singles-requires
+same-singles-requires c κs = search needs
 
 returns : tie.Need-returns
 unfolding sameRecord sameAttributes view
-returns c = rw (sym (c .before .same .ensures) ∙ not-true (c .before .same .result) (c .if1 .taken))
+returns c = rw (sym (c .before .same-singles .ensures) ∙ not-true (c .before .same-singles .result) (c .if1 .taken))
 
-same-requires-2 : tie.Need-same-requires-2
-same-requires-2 c κs = search needs
+same-units-requires : tie.Need-same-units-requires
+same-units-requires c κs = search needs
 
 returns-2 : tie.Need-returns-2
 unfolding sameRecord sameAttributes view
 returns-2 c =
-    let at = c .before .before .before .before in
-    rw (sym (at .before .same .ensures) ∙ not-false (at .before .same .result) (at .if1 .left), sym (c .before .same2 .ensures) ∙ not-true (c .before .same2 .result) (c .if2 .taken))
+    let at = c .before .before in
+    rw (sym (at .before .same-singles .ensures) ∙ not-false (at .before .same-singles .result) (at .if1 .left), sym (c .before .same-units .ensures) ∙ not-true (c .before .same-units .result) (c .if2 .taken))
 
-same-requires-3 : tie.Need-same-requires-3
-same-requires-3 c κs = search needs
+same-dds-requires : tie.Need-same-dds-requires
+same-dds-requires c κs = search needs
 
 returns-3 : tie.Need-returns-3
 unfolding sameRecord sameAttributes view
 returns-3 c =
-    let to = c .before .before .before in
-    let at = to .before .before .before .before in
-    rw (sym (at .before .same .ensures) ∙ not-false (at .before .same .result) (at .if1 .left), sym (to .before .same2 .ensures) ∙ not-false (to .before .same2 .result) (to .if2 .left)) (c .same3 .ensures)
+    let to = c .before in
+    let at = to .before .before in
+    rw (sym (at .before .same-singles .ensures) ∙ not-false (at .before .same-singles .result) (at .if1 .left), sym (to .before .same-units .ensures) ∙ not-false (to .before .same-units .result) (to .if2 .left)) (c .same-dds .ensures)
 
-pub same-spec : {M : Type 1} → statement M
-same-spec =
-    tie.close (tie.spec same-requires returns same-requires-2 returns-2 same-requires-3 returns-3)
+pub same-record-spec : {M : Type 1} → statement M
+same-record-spec =
+    tie.close (tie.spec same-singles-requires returns same-units-requires returns-2 same-dds-requires returns-3)

@@ -1,4 +1,4 @@
--- `Singles::same` meets its contract. The loop's invariant: the two agree where what is left of them does.
+-- `same_singles` meets its contract. The loop's invariant: the two agree where what is left of them does.
 -- Assumes nothing.
 use mathlib.Core.Path.{_≡_, refl, sym, _∙_}
 use mathlib.Core.Bool.{_&&_}
@@ -10,17 +10,18 @@ use borrow.Author.Tests.{not-false, not-true}
 use lib.ListN.{length, drop, length-map, List·getD-map}
 use Rattle.chars.specs.Case.{agree, sameText}
 use Rattle.chars.proofs.Laws.Case.{agree-end, agree-step}
+use Rattle.oraddr.specs.Bounds.{singles}
 use Rattle.oraddr.specs.View.{singlesView, valueView}
-use Rattle.oraddr.proofs.record.Singles.same.Statement.{statement}
-use Rattle.oraddr.proofs.record.Singles.same.Tie as tie
+use Rattle.oraddr_same.proofs.same.same_singles.Statement.{statement}
+use Rattle.oraddr_same.proofs.same.same_singles.Tie as tie
 
 abbrev Inv-loop : tie.InvT-loop
-Inv-loop self other k₀ k =
-    (k ≤ 8) × (length (singlesView self) ≡ 8) × (length (singlesView other) ≡ 8)
-    × (agree sameText (singlesView self) (singlesView other) ≡ agree sameText (drop k (singlesView self)) (drop k (singlesView other)))
+Inv-loop a b k₀ k =
+    (k ≤ singles) × (length (singlesView a) ≡ singles) × (length (singlesView b) ≡ singles)
+    × (agree sameText (singlesView a) (singlesView b) ≡ agree sameText (drop k (singlesView a)) (drop k (singlesView b)))
 
 abbrev μ-loop : tie.MeasureT-loop
-μ-loop self other k₀ k = 8 - k
+μ-loop a b k₀ k = singles - k
 
 loop-holds : tie.Need-loop-holds Inv-loop μ-loop
 unfolding singlesView
@@ -31,27 +32,27 @@ loop-holds c = (
   refl,
 )
 
-mul-a : tie.Need-mul-a Inv-loop μ-loop
-mul-a c = search needs
+mul-same-value : tie.Need-mul-same-value Inv-loop μ-loop
+mul-same-value c = search needs
 
-element-copy-out-a : tie.Need-element-copy-out-a Inv-loop μ-loop
-element-copy-out-a c = omega arith
+element-copy-out-same-value : tie.Need-element-copy-out-same-value Inv-loop μ-loop
+element-copy-out-same-value c = omega arith
 
-mul-b : tie.Need-mul-b Inv-loop μ-loop
-mul-b c = search needs
+mul-same-value-2 : tie.Need-mul-same-value-2 Inv-loop μ-loop
+mul-same-value-2 c = search needs
 
-element-copy-out-b : tie.Need-element-copy-out-b Inv-loop μ-loop
-element-copy-out-b c = omega arith
+element-copy-out-same-value-2 : tie.Need-element-copy-out-same-value-2 Inv-loop μ-loop
+element-copy-out-same-value-2 c = omega arith
 
-same-requires : tie.Need-same-requires Inv-loop μ-loop
-same-requires c κs = search needs
+same-value-requires : tie.Need-same-value-requires Inv-loop μ-loop
+same-value-requires c κs = search needs
 
-step : (c : tie.After-same Inv-loop μ-loop) →
+step : (c : tie.After-same-value Inv-loop μ-loop) →
     let at = c .before .before .before .before in
     let a = at .before .args .t1 in
     let b = at .before .args .t2 in
     agree sameText (singlesView a) (singlesView b)
-    ≡ (c .same .result && agree sameText (drop (at .loop .k + 1) (singlesView a)) (drop (at .loop .k + 1) (singlesView b)))
+    ≡ (c .same-value .result && agree sameText (drop (at .loop .k + 1) (singlesView a)) (drop (at .loop .k + 1) (singlesView b)))
 unfolding singlesView valueView
 step c =
     let at = c .before .before .before .before in
@@ -59,10 +60,10 @@ step c =
     let b = at .before .args .t2 in
     at .loop .inv .3
     ∙ agree-step sameText (singlesView a) (singlesView b) (at .loop .k) [] (omega arith) (omega arith)
-    ∙ rw (List·getD-map valueView (a .values) (at .loop .k) (record { len = 0; bytes = [] }), List·getD-map valueView (b .values) (at .loop .k) (record { len = 0; bytes = [] }), c .same .ensures)
+    ∙ rw (List·getD-map valueView (a .values) (at .loop .k) (record { len = 0; bytes = [] }), List·getD-map valueView (b .values) (at .loop .k) (record { len = 0; bytes = [] }), c .same-value .ensures)
 
 returns : tie.Need-returns Inv-loop μ-loop
-returns c = sym (step (c .before) ∙ rw (not-true (c .before .same .result) (c .if1 .taken)))
+returns c = sym (step (c .before) ∙ rw (not-true (c .before .same-value .result) (c .if1 .taken)))
 
 add-k : tie.Need-add-k Inv-loop μ-loop
 add-k c = omega arith
@@ -73,25 +74,25 @@ loop-less c = omega arith
 loop-again : tie.Need-loop-again Inv-loop μ-loop
 loop-again c =
     let at = c .before .before .before .before .before in
-    (omega arith, at .loop .inv .1, at .loop .inv .2, step (c .before) ∙ rw (not-false (c .before .same .result) (c .if1 .left)))
+    (omega arith, at .loop .inv .1, at .loop .inv .2, step (c .before) ∙ rw (not-false (c .before .same-value .result) (c .if1 .left)))
 
 returns-2 : tie.Need-returns-2 Inv-loop μ-loop
 returns-2 c =
     let at = c .before in
     sym (at .loop .inv .3 ∙ agree-end sameText (singlesView (at .before .args .t1)) (singlesView (at .before .args .t2)) (at .loop .k) (omega arith) (omega arith))
 
-pub same-spec : {M : Type 1} → statement M
-same-spec =
+pub same-singles-spec : {M : Type 1} → statement M
+same-singles-spec =
     tie.close
     (tie.spec
     Inv-loop
     μ-loop
     loop-holds
-    mul-a
-    element-copy-out-a
-    mul-b
-    element-copy-out-b
-    same-requires
+    mul-same-value
+    element-copy-out-same-value
+    mul-same-value-2
+    element-copy-out-same-value-2
+    same-value-requires
     returns
     add-k
     loop-less

@@ -1,4 +1,4 @@
--- `Units::same` meets its contract. The loop's invariant: the two are as many, and agree where what is left of them does.
+-- `same_units` meets its contract. The loop's invariant: the two are as many, and agree where what is left of them does.
 -- Assumes nothing.
 use mathlib.Core.Path.{_≡_, refl, sym, _∙_}
 use mathlib.Core.Bool.{_&&_}
@@ -11,17 +11,18 @@ use lib.ListN.{length, drop, length-map}
 use Rattle.chars.specs.Case.{agree, sameText}
 use Rattle.chars.proofs.Laws.Case.{agree-end, agree-lengths-differ, agree-step}
 use Rattle.chars.proofs.Laws.Seq.{getD-view, length-view}
+use Rattle.oraddr.specs.Bounds.{most}
 use Rattle.oraddr.specs.View.{unitView, unitsView}
-use Rattle.oraddr.proofs.record.Units.same.Statement.{statement}
-use Rattle.oraddr.proofs.record.Units.same.Tie as tie
+use Rattle.oraddr_same.proofs.same.same_units.Statement.{statement}
+use Rattle.oraddr_same.proofs.same.same_units.Tie as tie
 
 abbrev Inv-loop : tie.InvT-loop
-Inv-loop self other n i₀ i =
-    (i ≤ n) × (n ≤ 4) × (n ≡ length (unitsView self)) × (n ≡ length (unitsView other))
-    × (agree sameText (unitsView self) (unitsView other) ≡ agree sameText (drop i (unitsView self)) (drop i (unitsView other)))
+Inv-loop a b n i₀ i =
+    (i ≤ n) × (n ≤ most) × (n ≡ length (unitsView a)) × (n ≡ length (unitsView b))
+    × (agree sameText (unitsView a) (unitsView b) ≡ agree sameText (drop i (unitsView a)) (drop i (unitsView b)))
 
 abbrev μ-loop : tie.MeasureT-loop
-μ-loop self other n i₀ i = n - i
+μ-loop a b n i₀ i = n - i
 
 size-requires : tie.Need-size-requires Inv-loop μ-loop
 size-requires c κs = search needs
@@ -40,33 +41,33 @@ loop-holds c =
     let at = c .before .before .before in
     let u = at .args .t1 in (
       omega arith,
-      omega (arith, c .before .before .size .ensures, length-view (u .count) (map unitView (u .names)) 4 (length-map (u .names) unitView ∙ simp length-map at (at .good .0 .1 .1 .1 .0 .1 .0 .1))),
+      omega (arith, c .before .before .size .ensures, length-view (u .count) (map unitView (u .names)) most (length-map (u .names) unitView ∙ simp length-map at (at .good .0 .1 .1 .1 .0 .1 .0 .1))),
       c .before .before .size .ensures,
       c .if1 .left ∙ c .before .size2 .ensures,
       refl,
     )
 
-element-copy-out-a : tie.Need-element-copy-out-a Inv-loop μ-loop
-element-copy-out-a c = omega arith
+element-copy-out-same-unit : tie.Need-element-copy-out-same-unit Inv-loop μ-loop
+element-copy-out-same-unit c = omega arith
 
-mul-a : tie.Need-mul-a Inv-loop μ-loop
-mul-a c = let h : c .before .loop .i < 4 = element-copy-out-a c in search needs
+mul-same-unit : tie.Need-mul-same-unit Inv-loop μ-loop
+mul-same-unit c = let h : c .before .loop .i < most = element-copy-out-same-unit c in search needs
 
-element-copy-out-b : tie.Need-element-copy-out-b Inv-loop μ-loop
-element-copy-out-b c = omega arith
+element-copy-out-same-unit-2 : tie.Need-element-copy-out-same-unit-2 Inv-loop μ-loop
+element-copy-out-same-unit-2 c = omega arith
 
-mul-b : tie.Need-mul-b Inv-loop μ-loop
-mul-b c = let h : c .before .before .loop .i < 4 = element-copy-out-b c in search needs
+mul-same-unit-2 : tie.Need-mul-same-unit-2 Inv-loop μ-loop
+mul-same-unit-2 c = let h : c .before .before .loop .i < most = element-copy-out-same-unit-2 c in search needs
 
-same-requires : tie.Need-same-requires Inv-loop μ-loop
-same-requires c κs = search needs
+same-unit-requires : tie.Need-same-unit-requires Inv-loop μ-loop
+same-unit-requires c κs = search needs
 
-step : (c : tie.After-same Inv-loop μ-loop) →
+step : (c : tie.After-same-unit Inv-loop μ-loop) →
     let at = c .before .before .before .before in
     let a = at .before .before .before .before .args .t1 in
     let b = at .before .before .before .before .args .t2 in
     agree sameText (unitsView a) (unitsView b)
-    ≡ (c .same .result && agree sameText (drop (at .loop .i + 1) (unitsView a)) (drop (at .loop .i + 1) (unitsView b)))
+    ≡ (c .same-unit .result && agree sameText (drop (at .loop .i + 1) (unitsView a)) (drop (at .loop .i + 1) (unitsView b)))
 unfolding unitsView unitView
 step c =
     let at = c .before .before .before .before in
@@ -74,10 +75,10 @@ step c =
     let b = at .before .before .before .before .args .t2 in
     at .loop .inv .4
     ∙ agree-step sameText (unitsView a) (unitsView b) (at .loop .i) [] (omega arith) (omega arith)
-    ∙ rw (getD-view unitView (a .names) (a .count) (at .loop .i) (record { len = 0; bytes = [] }) (omega arith), getD-view unitView (b .names) (b .count) (at .loop .i) (record { len = 0; bytes = [] }) (omega arith), c .same .ensures)
+    ∙ rw (getD-view unitView (a .names) (a .count) (at .loop .i) (record { len = 0; bytes = [] }) (omega arith), getD-view unitView (b .names) (b .count) (at .loop .i) (record { len = 0; bytes = [] }) (omega arith), c .same-unit .ensures)
 
 returns-2 : tie.Need-returns-2 Inv-loop μ-loop
-returns-2 c = sym (step (c .before) ∙ rw (not-true (c .before .same .result) (c .if2 .taken)))
+returns-2 c = sym (step (c .before) ∙ rw (not-true (c .before .same-unit .result) (c .if2 .taken)))
 
 add-i : tie.Need-add-i Inv-loop μ-loop
 add-i c = omega arith
@@ -88,7 +89,7 @@ loop-less c = omega arith
 loop-again : tie.Need-loop-again Inv-loop μ-loop
 loop-again c =
     let at = c .before .before .before .before .before in
-    (omega arith, at .loop .inv .1, at .loop .inv .2, at .loop .inv .3, step (c .before) ∙ rw (not-false (c .before .same .result) (c .if2 .left)))
+    (omega arith, at .loop .inv .1, at .loop .inv .2, at .loop .inv .3, step (c .before) ∙ rw (not-false (c .before .same-unit .result) (c .if2 .left)))
 
 returns-3 : tie.Need-returns-3 Inv-loop μ-loop
 returns-3 c =
@@ -96,8 +97,8 @@ returns-3 c =
     let u = at .before .before .before .before .args in
     sym (at .loop .inv .4 ∙ agree-end sameText (unitsView (u .t1)) (unitsView (u .t2)) (at .loop .i) (omega arith) (omega arith))
 
-pub same-spec : {M : Type 1} → statement M
-same-spec =
+pub same-units-spec : {M : Type 1} → statement M
+same-units-spec =
     tie.close
     (tie.spec
     Inv-loop
@@ -106,11 +107,11 @@ same-spec =
     size-requires-2
     returns
     loop-holds
-    mul-a
-    element-copy-out-a
-    mul-b
-    element-copy-out-b
-    same-requires
+    mul-same-unit
+    element-copy-out-same-unit
+    mul-same-unit-2
+    element-copy-out-same-unit-2
+    same-unit-requires
     returns-2
     add-i
     loop-less
