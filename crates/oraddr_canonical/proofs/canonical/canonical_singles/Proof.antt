@@ -1,4 +1,4 @@
--- `oraddr::record::Singles::is_canonical` meets its contract. The loop's invariant: what is left is kept just where all is.
+-- `canonical_singles` meets its contract. The loop's invariant: what is left is kept just where all is.
 -- Assumes nothing.
 use mathlib.Core.Path.{_≡_, refl, sym, _∙_}
 use mathlib.Core.List.{[]}
@@ -6,27 +6,28 @@ use Prim.Native.Nat.{_≤_, _-_}
 use native.Mathlib.Omega.{arith}
 use lib.ListN.{drop, length-map}
 use Rattle.chars.proofs.Laws.Lists.{failed, passed}
+use Rattle.oraddr.specs.Bounds.{singles}
 use Rattle.oraddr.specs.Canonical.{canonicalSingles}
 use Rattle.oraddr.specs.View.{singlesInRange, singlesView}
-use Rattle.oraddr.proofs.Laws.Canonical.{kept-end, kept-step, keptFrom}
-use Rattle.oraddr.proofs.record.Singles.is_canonical.Statement.{statement}
-use Rattle.oraddr.proofs.record.Singles.is_canonical.Tie as tie
+use Rattle.oraddr_canonical.proofs.Laws.{kept-end, kept-step, keptFrom}
+use Rattle.oraddr_canonical.proofs.canonical.canonical_singles.Statement.{statement}
+use Rattle.oraddr_canonical.proofs.canonical.canonical_singles.Tie as tie
 
 abbrev Inv-loop : tie.InvT-loop
-Inv-loop self k₀ k = (k ≤ 8) × (canonicalSingles self ≡ keptFrom k (drop k (self .values)))
+Inv-loop all k₀ k = (k ≤ singles) × (canonicalSingles all ≡ keptFrom k (drop k (all .values)))
 
 abbrev μ-loop : tie.MeasureT-loop
-μ-loop self k₀ k = 8 - k
+μ-loop all k₀ k = singles - k
 
 loop-holds : tie.Need-loop-holds Inv-loop μ-loop
 unfolding canonicalSingles singlesInRange singlesView
 loop-holds c = (omega arith, refl)
 
-mul-value : tie.Need-mul-value Inv-loop μ-loop
-mul-value c = omega arith
+mul-is-kept : tie.Need-mul-is-kept Inv-loop μ-loop
+mul-is-kept c = omega arith
 
-element-copy-out-value : tie.Need-element-copy-out-value Inv-loop μ-loop
-element-copy-out-value c = omega arith
+element-copy-out-is-kept : tie.Need-element-copy-out-is-kept Inv-loop μ-loop
+element-copy-out-is-kept c = omega arith
 
 is-kept-requires : tie.Need-is-kept-requires Inv-loop μ-loop
 is-kept-requires c κs = omega arith
@@ -61,15 +62,15 @@ returns-2 c =
     (at .loop .inv .1
     ∙ kept-end (at .before .args .t1 .values) (at .loop .k) (omega (arith, simp length-map at (at .before .good .0 .1 .1 .0 .1 .0 .1))))
 
-pub is-canonical-spec : {M : Type 1} → statement M
-is-canonical-spec =
+pub canonical-singles-spec : {M : Type 1} → statement M
+canonical-singles-spec =
     tie.close
     (tie.spec
     Inv-loop
     μ-loop
     loop-holds
-    mul-value
-    element-copy-out-value
+    mul-is-kept
+    element-copy-out-is-kept
     is-kept-requires
     returns
     add-k

@@ -1,11 +1,11 @@
--- `oraddr::record::Record::has_names_with_surname` meets its contract: the tests in the definition's order.
+-- `has_names_with_surname` meets its contract: the tests in the definition's order.
 -- Assumes nothing.
 use borrow.Author.Needs.{needs}
 use mathlib.Core.Path.{sym, ap, _∙_}
 use mathlib.Core.Bool.{not}
 use Rattle.oraddr.specs.Canonical.{namesWithSurname}
-use Rattle.oraddr.proofs.record.Record.has_names_with_surname.Statement.{statement}
-use Rattle.oraddr.proofs.record.Record.has_names_with_surname.Tie as tie
+use Rattle.oraddr_canonical.proofs.canonical.has_names_with_surname.Statement.{statement}
+use Rattle.oraddr_canonical.proofs.canonical.has_names_with_surname.Tie as tie
 
 has-requires : tie.Need-has-requires
 has-requires c κs = search needs

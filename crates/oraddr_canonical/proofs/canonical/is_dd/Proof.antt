@@ -1,27 +1,44 @@
--- `oraddr::value::DomainDefined::is_canonical` meets its contract: the type's two tests, then the value's (`dd-parts`).
+-- `is_dd` meets its contract: the type and then the value are held to their rules.
 -- Assumes nothing.
 use borrow.Author.Needs.{needs}
 use mathlib.Core.Path.{sym, _∙_}
 use Rattle.chars.proofs.Laws.Lists.{failed, passed}
-use Rattle.oraddr.proofs.Laws.Canonical.{dd-parts}
-use Rattle.oraddr.proofs.value.DomainDefined.is_canonical.Statement.{statement}
-use Rattle.oraddr.proofs.value.DomainDefined.is_canonical.Tie as tie
+use Rattle.oraddr.specs.View.{ddValueView, kindView}
+use Rattle.oraddr_canonical.proofs.Laws.{dd-parts}
+use Rattle.oraddr_canonical.proofs.canonical.is_dd.Statement.{statement}
+use Rattle.oraddr_canonical.proofs.canonical.is_dd.Tie as tie
 
-is-canonical-requires : tie.Need-is-canonical-requires
-is-canonical-requires c κs = search needs
+slice-aggregate-is-held : tie.Need-slice-aggregate-is-held
+slice-aggregate-is-held c = search needs
+
+is-held-requires : tie.Need-is-held-requires
+is-held-requires c κs = search needs
 
 returns : tie.Need-returns
+unfolding kindView
 returns c =
-    sym (dd-parts (c .before .before .before .args .self) ∙ rw (failed (c .before .is-canonical .ensures) (c .if1 .taken)))
+    sym (dd-parts (c .before .before .before .before .before .args .item) ∙ rw (failed (c .before .is-held .ensures) (c .if1 .taken)))
 
-is-canonical-requires-2 : tie.Need-is-canonical-requires-2
-is-canonical-requires-2 c κs = search needs
+slice-aggregate-is-held-2 : tie.Need-slice-aggregate-is-held-2
+slice-aggregate-is-held-2 c = search needs
+
+is-held-requires-2 : tie.Need-is-held-requires-2
+is-held-requires-2 c κs = search needs
 
 returns-2 : tie.Need-returns-2
+unfolding kindView ddValueView
 returns-2 c =
-    c .is-canonical2 .ensures
-    ∙ sym (dd-parts (c .before .before .before .before .before .args .self) ∙ rw (passed (c .before .before .before .is-canonical .ensures) (c .before .before .if1 .left)))
+    let at = c .before .before .before .before in
+    c .is-held2 .ensures
+    ∙ sym (dd-parts (at .before .before .before .before .before .args .item) ∙ rw (passed (at .before .is-held .ensures) (at .if1 .left)))
 
-pub is-canonical-spec : {M : Type 1} → statement M
-is-canonical-spec =
-    tie.close (tie.spec is-canonical-requires returns is-canonical-requires-2 returns-2)
+pub is-dd-spec : {M : Type 1} → statement M
+is-dd-spec =
+    tie.close
+    (tie.spec
+    slice-aggregate-is-held
+    is-held-requires
+    returns
+    slice-aggregate-is-held-2
+    is-held-requires-2
+    returns-2)
