@@ -13,16 +13,22 @@ use oraddr::value::OrgUnit;
 use oraddr::value::Value;
 use oraddr::value::held;
 ghost use mathlib.Core.Path.{_≡_};
+ghost use mathlib.Core.Bool.{cond};
 ghost use lib.ListN.{take};
 ghost use Rattle.chars.specs.Case.{agree, equalText, sameText};
 ghost use Rattle.oraddr.specs.Same.{sameDd, sameRecord};
 ghost use Rattle.oraddr.specs.View.{ddValueView, ddView, ddsView, kindView, singlesView, unitView, unitsView, valueView};
 
-// Whether the texts at the fronts of two rooms are the same.
-fn same_held(x: &[u8], n: usize, y: &[u8], m: usize) -> bool
-    ensures { λ r. ⌜ r ≡ sameText (take n (now (x .entry))) (take m (now (y .entry))) ⌝ }
+// Whether the texts at the fronts of two rooms agree: byte for byte where it is to be exact, or else letter case aside.
+fn agree_held(exact: bool, x: &[u8], n: usize, y: &[u8], m: usize) -> bool
+    ensures { λ r. ⌜ r ≡ cond exact (equalText (take n (now (x .entry))) (take m (now (y .entry)))) (sameText (take n (now (x .entry))) (take m (now (y .entry)))) ⌝ }
 {
-    same_text(held(x, n), held(y, m))
+    let a = held(x, n);
+    let b = held(y, m);
+    if exact {
+        return equal_text(a, b);
+    }
+    same_text(a, b)
 }
 
 fn same_value(a: Value, b: Value) -> bool
@@ -30,7 +36,7 @@ fn same_value(a: Value, b: Value) -> bool
 {
     let x = a.bytes;
     let y = b.bytes;
-    same_held(&x, a.len, &y, b.len)
+    agree_held(false, &x, a.len, &y, b.len)
 }
 
 fn same_unit(a: OrgUnit, b: OrgUnit) -> bool
@@ -38,7 +44,7 @@ fn same_unit(a: OrgUnit, b: OrgUnit) -> bool
 {
     let x = a.bytes;
     let y = b.bytes;
-    same_held(&x, a.len, &y, b.len)
+    agree_held(false, &x, a.len, &y, b.len)
 }
 
 fn same_kind(a: DdType, b: DdType) -> bool
@@ -46,16 +52,15 @@ fn same_kind(a: DdType, b: DdType) -> bool
 {
     let x = a.bytes;
     let y = b.bytes;
-    same_held(&x, a.len, &y, b.len)
+    agree_held(false, &x, a.len, &y, b.len)
 }
 
-// A DD's value is compared byte for byte.
-fn equal_dd_value(a: DdValue, b: DdValue) -> bool
+fn same_dd_value(a: DdValue, b: DdValue) -> bool
     ensures { λ r. ⌜ r ≡ equalText (ddValueView a) (ddValueView b) ⌝ }
 {
     let x = a.bytes;
     let y = b.bytes;
-    equal_text(held(&x, a.len), held(&y, b.len))
+    agree_held(true, &x, a.len, &y, b.len)
 }
 
 fn same_dd(a: DomainDefined, b: DomainDefined) -> bool
@@ -64,7 +69,7 @@ fn same_dd(a: DomainDefined, b: DomainDefined) -> bool
     if !same_kind(a.kind, b.kind) {
         return false;
     }
-    equal_dd_value(a.value, b.value)
+    same_dd_value(a.value, b.value)
 }
 
 fn same_singles(a: Singles, b: Singles) -> bool

@@ -15,14 +15,14 @@ returns : tie.Need-returns
 unfolding sameDd ddView
 returns c = rw (sym (c .before .same-kind .ensures) ∙ not-true (c .before .same-kind .result) (c .if1 .taken))
 
-equal-dd-value-requires : tie.Need-equal-dd-value-requires
-equal-dd-value-requires c κs = search needs
+same-dd-value-requires : tie.Need-same-dd-value-requires
+same-dd-value-requires c κs = search needs
 
 returns-2 : tie.Need-returns-2
 unfolding sameDd ddView
 returns-2 c =
     let at = c .before in
-    rw (sym (at .before .same-kind .ensures) ∙ not-false (at .before .same-kind .result) (at .if1 .left)) (c .equal-dd-value .ensures)
+    rw (sym (at .before .same-kind .ensures) ∙ not-false (at .before .same-kind .result) (at .if1 .left)) (c .same-dd-value .ensures)
 
 pub same-dd-spec : {M : Type 1} → statement M
-same-dd-spec = tie.close (tie.spec same-kind-requires returns equal-dd-value-requires returns-2)
+same-dd-spec = tie.close (tie.spec same-kind-requires returns same-dd-value-requires returns-2)
