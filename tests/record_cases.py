@@ -118,17 +118,18 @@ class Cases:
     def __init__(self):
         self.stdin, self.stdout = bytearray(), bytearray()
         self.record, self.kept = Record(), Record()
-        self.tables()
 
-    def tables(self):
-        for chars in (LETTERS, DIGITS, PRINTABLE, ATOM, LABEL):
-            self.stdout += b"".join(b"1" if b in chars else b"0" for b in range(256)) + b"\n"
-        self.stdout += b"".join(b"%d " % (b + 32 if 65 <= b <= 90 else b) for b in range(256)) + b"\n"
+    def line(self, command, number=0, text=b""):
+        """A line of the input: a command, a number in four digits, and bytes in hexadecimal."""
+        self.stdin += b"%s%04d%s\n" % (command.encode(), number, text.hex().encode())
+
+    def byte(self, b):
+        self.line("b", 0, bytes([b]))
+        self.stdout += b"".join(b"1" if b in chars else b"0" for chars in (LETTERS, DIGITS, PRINTABLE, ATOM, LABEL))
+        self.stdout += b" %d\n" % (b + 32 if 65 <= b <= 90 else b)
 
     def add(self, kind, *texts):
-        self.stdin += kind.encode()
-        for t in texts:
-            self.stdin += bytes([len(t)]) + t
+        self.line(kind, len(texts[0]) if kind == "d" else 0, b"".join(texts))
         if kind == "u":
             n = self.record.add_unit(*texts)
         elif kind == "d":
@@ -139,8 +140,8 @@ class Cases:
 
     def disturb(self, tag, *numbers):
         """Sets a length or a count to what no addition would."""
-        self.stdin += tag.encode() + bytes(numbers)
         value = LARGEST if numbers[-1] == 255 else numbers[-1]
+        self.line(tag, min(value, 9999), bytes(numbers[:-1]))
         r = self.record
         if tag == "L":
             r.single[numbers[0]][0] = value
@@ -156,17 +157,17 @@ class Cases:
             r.dd_count = value
 
     def keep(self):
-        self.stdin += b">"
+        self.line(">")
         self.kept, self.record = self.record, Record()
 
     def end(self):
-        self.stdin += b"."
+        self.line(".")
         flags = b"%d%d" % (self.record.canonical(), self.record.same(self.kept))
         self.stdout += b" " + flags + b" " + dump(self.record) + b"\n"
         self.record, self.kept = Record(), Record()
 
     def text(self, s):
-        self.stdin += b"w" + bytes([len(s)]) + s
+        self.line("w", 0, s)
         atoms = all(p != b"" and all(b in ATOM for b in p) for p in s.split(b"."))
         part = bool(re.fullmatch(rb"[A-Za-z0-9]([A-Za-z0-9-]{0,61}[A-Za-z0-9])?", s))
         self.stdout += b"%d%d%d%d\n" % (well_spaced(s), is_text(s), atoms, part)
@@ -199,6 +200,11 @@ def bounds(c):
     c.whole(*BASE, ("d", b"FENDER-10", b"v"))
     for admd in (b" ", b"  ", b" P", b"P ", b"P  Q", b"P Q"):
         c.whole(BASE[0], ("a", admd), BASE[2])
+
+
+def classes(c):
+    for b in range(256):
+        c.byte(b)
 
 
 def characters(c):
@@ -292,7 +298,7 @@ def any_input(c):
 
 def main():
     c = Cases()
-    for part in (bounds, characters, orders, sameness, any_input):
+    for part in (classes, bounds, characters, orders, sameness, any_input):
         part(c)
     for name, content in (("stdin", c.stdin), ("stdout", c.stdout)):
         with open("crates/record_cases/" + name, "wb") as f:

@@ -1,9 +1,9 @@
--- What a record says: its attributes as byte strings, an absent one being empty, and the eight levels.
+-- What a record says: its attributes as byte strings, an absent one being empty, and the levels.
 -- Assumes nothing.
 use Prim.Native.Nat.{ℕ}
 use mathlib.Core.List.{List, [], _++_}
 use lib.ListN.{getD, take, replicate}
-use Rattle.oraddr.specs.Bounds.{most}
+use Rattle.oraddr.specs.Bounds.{most, ownLevels}
 
 -- a domain defined attribute: its type and its value
 pub record Dd : Type 0 where
@@ -27,10 +27,6 @@ unitOf a i = getD (a .units) i []
 unfoldable pub noDd : Dd
 noDd = record { kind = []; value = [] }
 
-unfoldable pub ddOf : Attributes → ℕ → Dd
-unfolding noDd
-ddOf a i = getD (a .dds) i noDd
-
--- document 01: "The levels are C, ADMD, PRMD, O, OU1 to OU4". Eight, an absent one empty.
+-- document 01: "The levels are C, ADMD, PRMD, O, OU1 to OU4". An absent one is empty.
 unfoldable pub levels : Attributes → List (List ℕ)
-levels a = take 4 (a .single) ++ take most (a .units ++ replicate most [])
+levels a = take ownLevels (a .single) ++ take most (a .units ++ replicate most [])

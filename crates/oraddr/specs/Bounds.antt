@@ -10,7 +10,7 @@ use Rattle.chars.specs.Case.{equalText}
 use Rattle.chars.specs.Lists.{all}
 use Rattle.chars.specs.Spaces.{isText}
 
--- The entries of the table. The first eight are the attributes that a record has once, and their numbers in it.
+-- The entries of the table. The first `singles` are the attributes that a record has once, and their numbers in it.
 abbrev pub C : ℕ
 C = 0
 
@@ -52,12 +52,26 @@ C-LETTERS = 11
 abbrev pub bounds : List ℕ
 bounds = 3 ∷ 16 ∷ 16 ∷ 64 ∷ 40 ∷ 16 ∷ 5 ∷ 3 ∷ 32 ∷ 8 ∷ 128 ∷ 2 ∷ []
 
+-- how many entries it has, and how many of them are of the attributes that a record has once
+abbrev pub entries : ℕ
+entries = 12
+
+abbrev pub singles : ℕ
+singles = 8
+
 abbrev pub boundOf : ℕ → ℕ
 boundOf k = getD bounds k 0
 
 -- document 01: "There are up to four unit names ... and up to four DDs in order"
 abbrev pub most : ℕ
 most = 4
+
+-- document 01: "The levels are C, ADMD, PRMD, O, OU1 to OU4": how many there are, and how many of them are attributes that a record has once
+abbrev pub levelCount : ℕ
+levelCount = 8
+
+abbrev pub ownLevels : ℕ
+ownLevels = 4
 
 -- document 01: "non-empty, within its bound, made of printable string characters ..., with no leading, trailing or adjacent spaces"
 unfoldable pub isValue : ℕ → List ℕ → Bool

@@ -7,7 +7,7 @@ use lib.Dec.{leb, eqb}
 use lib.ListN.{length, take, drop, replicate}
 use Rattle.chars.specs.Lists.{all}
 use Rattle.chars.specs.Write.{front}
-use Rattle.oraddr.specs.Bounds.{most, boundOf, O, OU, DD-TYPE, DD-VALUE}
+use Rattle.oraddr.specs.Bounds.{most, singles, boundOf, O, OU, DD-TYPE, DD-VALUE}
 use Rattle.oraddr.specs.Attributes.{Attributes, Dd}
 use Rattle.oraddr.specs.declared.value.Value.{Value}
 use Rattle.oraddr.specs.declared.value.OrgUnit.{OrgUnit}
@@ -73,7 +73,7 @@ unfoldable pub domainDefinedOf : List ℕ → List ℕ → DomainDefined
 unfolding kindOf ddValueOf
 domainDefinedOf t s = record { kind = kindOf t; value = ddValueOf s }
 
--- no length is over its room, and no count over four
+-- no length is over its room, and no count over the most there may be
 unfoldable pub singlesInRange : Singles → Bool
 unfolding all
 singlesInRange s = all (λ v. leb (v .len) (boundOf O)) (s .values)
@@ -124,7 +124,7 @@ abbrev pub emptyRecord : Record
 unfolding valueOf orgUnitOf domainDefinedOf
 emptyRecord =
     record {
-      singles = record { values = replicate 8 (valueOf []) };
+      singles = record { values = replicate singles (valueOf []) };
       units = record { count = 0; names = replicate most (orgUnitOf []) };
       dds = record { count = 0; items = replicate most (domainDefinedOf [] []) };
     }

@@ -23,14 +23,11 @@ use crate::value::DomainDefined;
 use crate::value::OrgUnit;
 use crate::value::Value;
 ghost use mathlib.Core.Path.{_≡_};
-ghost use mathlib.Core.Bool.{true};
 ghost use Prim.Native.Nat.{_<_, _≤_};
 ghost use lib.ListN.{length};
 ghost use Rattle.oraddr.specs.Add.{addDd, addSingle, addUnit, placeOf, pushDd, pushUnit, setSingle, told};
-ghost use Rattle.oraddr.specs.Attributes.{Dd};
-ghost use Rattle.oraddr.specs.Bounds.{boundOf, DD-TYPE, DD-VALUE};
+ghost use Rattle.oraddr.specs.Bounds.{boundOf, most, singles};
 ghost use Rattle.oraddr.specs.Bounds.{O as O-BOUND, OU as OU-BOUND};
-ghost use Rattle.oraddr.specs.Canonical.{isDd};
 
 // An attribute that a record has once.
 pub enum Attribute {
@@ -74,7 +71,7 @@ pub fn place(a: Attribute) -> usize
 
 impl Singles {
     fn with(mut self, k: usize, value: &[u8]) -> Singles
-        requires { ⌜ k < 8 ⌝ }
+        requires { ⌜ k < singles ⌝ }
         requires { ⌜ length (now value) ≤ boundOf O-BOUND ⌝ }
         ensures { λ r. ⌜ r ≡ setSingle self k (now (value .entry)) ⌝ }
     {
@@ -85,7 +82,7 @@ impl Singles {
 
 impl Units {
     fn with(mut self, name: &[u8]) -> Units
-        requires { ⌜ self .count < 4 ⌝ }
+        requires { ⌜ self .count < most ⌝ }
         requires { ⌜ length (now name) ≤ boundOf OU-BOUND ⌝ }
         ensures { λ r. ⌜ r ≡ pushUnit self (now (name .entry)) ⌝ }
     {
@@ -98,7 +95,7 @@ impl Units {
 
 impl Dds {
     fn with(mut self, item: DomainDefined) -> Dds
-        requires { ⌜ self .count < 4 ⌝ }
+        requires { ⌜ self .count < most ⌝ }
         ensures { λ r. ⌜ r ≡ pushDd self item ⌝ }
     {
         let count = self.count;
@@ -111,7 +108,7 @@ impl Dds {
 impl Record {
     // Adds the attribute with the number k, which a record has once.
     pub fn with_single(mut self, k: usize, value: &[u8]) -> Addition
-        requires { ⌜ k < 8 ⌝ }
+        requires { ⌜ k < singles ⌝ }
         ensures { λ r. ⌜ told r ≡ addSingle self k (now (value .entry)) ⌝ }
     {
         if !keeps_rule(k, value) {

@@ -4,7 +4,7 @@ use chars::class::all_in;
 use chars::parts::is_text;
 ghost use mathlib.Core.Path.{_≡_};
 ghost use Prim.Native.Nat.{_<_};
-ghost use Rattle.oraddr.specs.Bounds.{boundOf, isCountry, isSpace, isValue, rule};
+ghost use Rattle.oraddr.specs.Bounds.{boundOf, entries, isCountry, isSpace, isValue, rule};
 
 // The entries of the table. The first SINGLES are the attributes that a record has once.
 pub const C: usize = 0;
@@ -34,7 +34,13 @@ pub const C_LETTERS: usize = 11;
 // How many attributes a record has once.
 pub const SINGLES: usize = 8;
 
-// How many of the eight levels are attributes that a record has once: C, ADMD, PRMD and O. The units follow.
+// How many entries the table has.
+pub const ENTRIES: usize = 12;
+
+// How many levels there are: C, ADMD, PRMD, O, OU1 to OU4.
+pub const LEVELS: usize = 8;
+
+// How many of the levels are attributes that a record has once: C, ADMD, PRMD and O. The units follow.
 pub const OWN_LEVELS: usize = 4;
 
 // How many units, and how many DDs, a record has at most.
@@ -50,7 +56,7 @@ pub const DD_TYPE_ROOM: usize = 8;
 pub const DD_VALUE_ROOM: usize = 128;
 
 // X.411's upper bounds. C has three digits, or the two letters of the last entry.
-pub const BOUNDS: [usize; 12] = [
+pub const BOUNDS: [usize; ENTRIES] = [
     3,
     16,
     16,
@@ -66,7 +72,7 @@ pub const BOUNDS: [usize; 12] = [
 ];
 
 pub fn bound(k: usize) -> usize
-    requires { ⌜ k < 12 ⌝ }
+    requires { ⌜ k < entries ⌝ }
     ensures { λ r. ⌜ r ≡ boundOf k ⌝ }
 {
     BOUNDS[k]
@@ -74,7 +80,7 @@ pub fn bound(k: usize) -> usize
 
 // A value within bound k: not empty, printable string characters, well spaced.
 pub fn is_value(k: usize, s: &[u8]) -> bool
-    requires { ⌜ k < 12 ⌝ }
+    requires { ⌜ k < entries ⌝ }
     ensures { λ r. ⌜ r ≡ isValue k (now (s .entry)) ⌝ }
 {
     if bound(k) < s.len() {
@@ -108,7 +114,7 @@ pub fn is_space(s: &[u8]) -> bool
 
 // The own rule of the attribute with the number k, for a value that is present.
 pub fn keeps_rule(k: usize, s: &[u8]) -> bool
-    requires { ⌜ k < 12 ⌝ }
+    requires { ⌜ k < entries ⌝ }
     ensures { λ r. ⌜ r ≡ rule k (now (s .entry)) ⌝ }
 {
     if k == C {

@@ -5,7 +5,6 @@ use crate::bounds::DD_VALUE_ROOM;
 use crate::bounds::MOST;
 use crate::bounds::OU_ROOM;
 use crate::bounds::OWN_LEVELS;
-use crate::bounds::S;
 use crate::bounds::SINGLES;
 use crate::bounds::VALUE_ROOM;
 use crate::value::DdType;
@@ -13,13 +12,14 @@ use crate::value::DdValue;
 use crate::value::DomainDefined;
 use crate::value::OrgUnit;
 use crate::value::Value;
+use crate::value::held;
 use crate::value::within;
 ghost use mathlib.Core.Path.{_≡_};
 ghost use Prim.Native.Nat.{_<_};
 ghost use lib.ListN.{getD, length};
 ghost use mathlib.Core.List.{[]};
-ghost use Rattle.oraddr.specs.Attributes.{ddOf, levels, noDd, singleOf, unitOf};
-ghost use Rattle.oraddr.specs.Canonical.{identified};
+ghost use Rattle.oraddr.specs.Attributes.{levels, noDd, singleOf, unitOf};
+ghost use Rattle.oraddr.specs.Bounds.{levelCount, singles};
 ghost use Rattle.oraddr.specs.View.{ddView, ddsView, emptyRecord, unitView, unitsView, valueOf, valueView, view};
 
 // The attributes that a record has once, by their numbers in the table of bounds.
@@ -81,10 +81,23 @@ pub const EMPTY: Record = Record {
     },
 };
 
+// The unit, and the DD, that is not there.
+fn no_unit() -> OrgUnit
+    ensures { λ r. ⌜ unitView r ≡ [] ⌝ }
+{
+    NO_UNIT
+}
+
+fn no_dd() -> DomainDefined
+    ensures { λ r. ⌜ ddView r ≡ noDd ⌝ }
+{
+    NO_DD
+}
+
 impl Singles {
     // The value with the number k.
     pub fn value(self, k: usize) -> Value
-        requires { ⌜ k < 8 ⌝ }
+        requires { ⌜ k < singles ⌝ }
         ensures { λ r. ⌜ r ≡ getD (self .values) k (valueOf []) ⌝ }
     {
         self.values[k]
@@ -106,7 +119,7 @@ impl Units {
         if i < self.size() {
             return self.names[i];
         }
-        NO_UNIT
+        no_unit()
     }
 }
 
@@ -124,7 +137,7 @@ impl Dds {
         if i < self.size() {
             return self.items[i];
         }
-        NO_DD
+        no_dd()
     }
 }
 
@@ -137,7 +150,7 @@ impl Record {
 
     // The value of the attribute with the number k, which a record has once.
     pub fn single(self, k: usize) -> Value
-        requires { ⌜ k < 8 ⌝ }
+        requires { ⌜ k < singles ⌝ }
         ensures { λ r. ⌜ valueView r ≡ singleOf (view self) k ⌝ }
     {
         let singles = self.singles;
@@ -151,35 +164,16 @@ impl Record {
         units.name(i)
     }
 
-    pub fn dd(self, i: usize) -> DomainDefined
-        ensures { λ r. ⌜ ddView r ≡ ddOf (view self) i ⌝ }
-    {
-        let dds = self.dds;
-        dds.item(i)
-    }
-
-    // Level k of the eight: C, ADMD, PRMD, O, OU1 to OU4.
+    // Level k: C, ADMD, PRMD, O, OU1 to OU4.
     pub fn level(self, k: usize) -> Value
-        requires { ⌜ k < 8 ⌝ }
+        requires { ⌜ k < levelCount ⌝ }
         ensures { λ r. ⌜ valueView r ≡ getD (levels (view self)) k [] ⌝ }
     {
         if k < OWN_LEVELS {
             return self.single(k);
         }
         let unit = self.unit(k - OWN_LEVELS);
-        let n = unit.size();
         let bytes = unit.bytes;
-        Value::of(&bytes[..n])
-    }
-
-    // Whether the record has S or at least one DD.
-    pub fn is_identified(self) -> bool
-        ensures { λ r. ⌜ r ≡ identified (view self) ⌝ }
-    {
-        if 0 < self.single(S).size() {
-            return true;
-        }
-        let dds = self.dds;
-        0 < dds.size()
+        Value::of(held(&bytes, unit.len))
     }
 }

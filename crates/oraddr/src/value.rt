@@ -7,7 +7,7 @@ use crate::bounds::VALUE_ROOM;
 use chars::write::put;
 ghost use mathlib.Core.Path.{_≡_};
 ghost use Prim.Native.Nat.{_≤_, min};
-ghost use lib.ListN.{length};
+ghost use lib.ListN.{length, take};
 ghost use Rattle.oraddr.specs.Bounds.{boundOf, DD-TYPE, DD-VALUE, O, OU};
 ghost use Rattle.oraddr.specs.View.{ddValueOf, ddValueView, kindOf, kindView, orgUnitOf, unitView, valueOf, valueView};
 
@@ -43,6 +43,16 @@ pub fn within(len: usize, room: usize) -> usize
     ensures { λ r. ⌜ r ≡ min len room ⌝ }
 {
     if len < room { len } else { room }
+}
+
+// The text at the front of a room, its length being anything.
+pub fn held(room: &[u8], len: usize) -> &[u8]
+    ensures { λ r. ⌜ now r ≡ take len (now (room .entry)) ⌝ }
+{
+    if room.len() < len {
+        return room;
+    }
+    &room[..len]
 }
 
 impl Value {

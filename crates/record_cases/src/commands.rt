@@ -1,75 +1,28 @@
-// The commands that change the record: additions, and lengths and counts set to anything. What is required of a place
-// only keeps the sums from wrapping: every place is far below, since standard input is.
-use crate::print::digit;
+// The commands that change the record: additions, and lengths and counts set to anything.
+use cases::print::say_number;
+use cases::read::LARGEST;
+use chars::parts::byte_at;
 use oraddr::add::Added;
 use oraddr::add::Addition;
 use oraddr::add::Attribute;
 use oraddr::bounds::MOST;
 use oraddr::bounds::SINGLES;
+use oraddr::record::Dds;
 use oraddr::record::Record;
-ghost use Prim.Native.Nat.{_+_, _<_, _≤_};
-ghost use lib.ListN.{length};
+use oraddr::record::Singles;
+use oraddr::record::Units;
+use oraddr::value::within;
 
-// The record after a command, and where the next command starts.
-pub struct Step {
-    pub record: Record,
-    pub next: usize,
-}
-
-fn wide(b: u8) -> usize
-    ensures { λ r. ⌜ r < 256 ⌝ }
-{
-    b as usize
-}
-
-// The byte at a place, 0 past the end.
-fn byte_at(s: &[u8], at: usize) -> usize
-    ensures { λ r. ⌜ r < 256 ⌝ }
-{
-    if at < s.len() { wide(s[at]) } else { 0 }
-}
-
-// n bytes from a place on, or as many as there are.
-fn part(s: &[u8], at: usize, n: usize) -> &[u8]
-    ensures { λ r. ⌜ length (now r) ≤ length (now (s .entry)) ⌝ }
-{
-    let end = s.len();
-    if end <= at {
-        return &s[end..end];
-    }
-    if end - at < n {
-        return &s[at..end];
-    }
-    let stop = at + n;
-    &s[at..stop]
-}
-
-// The text at a place: one byte for its length, and then its bytes, or as many as there are.
-pub(crate) fn text_at(s: &[u8], at: usize) -> &[u8]
-    requires { ⌜ at < 1000000 ⌝ }
-    ensures { λ r. ⌜ length (now r) ≤ length (now (s .entry)) ⌝ }
-{
-    part(s, at + 1, byte_at(s, at))
-}
-
-// Where the text at a place ends.
-pub(crate) fn past_text(s: &[u8], at: usize) -> usize
-    requires { ⌜ at < 1000000 ⌝ }
-    ensures { λ r. ⌜ (at < r) × (r ≤ at + 256) ⌝ }
-{
-    at + 1 + byte_at(s, at)
-}
-
-// The attribute that a command's byte adds.
-fn attribute(tag: usize) -> Attribute {
+// The attribute that a command adds.
+fn attribute(tag: u8) -> Attribute {
     match tag {
-        99 => Attribute::C,
-        97 => Attribute::Admd,
-        112 => Attribute::Prmd,
-        111 => Attribute::O,
-        115 => Attribute::S,
-        103 => Attribute::G,
-        105 => Attribute::I,
+        b'c' => Attribute::C,
+        b'a' => Attribute::Admd,
+        b'p' => Attribute::Prmd,
+        b'o' => Attribute::O,
+        b's' => Attribute::S,
+        b'g' => Attribute::G,
+        b'i' => Attribute::I,
         _ => Attribute::Gq,
     }
 }
@@ -78,145 +31,110 @@ fn attribute(tag: usize) -> Attribute {
 fn told(a: Addition) -> Record {
     let answer = a.answer;
     match answer {
-        Added::Done => digit(0),
-        Added::Refused => digit(4),
+        Added::Done => say_number(0),
+        Added::Refused => say_number(4),
     }
     a.record
 }
 
-// Adds a DD, whose value follows its type.
-fn add_dd(s: &[u8], at: usize, rec: Record) -> Step
-    requires { ⌜ at < 900000 ⌝ }
-    ensures { λ r. ⌜ at < r .next ⌝ }
-{
-    let value_at = past_text(s, at);
-    let done = rec.with_dd(text_at(s, at), text_at(s, value_at));
-    Step {
-        record: told(done),
-        next: past_text(s, value_at),
-    }
+// Adds a DD, whose value follows its type of n bytes.
+fn add_dd(rec: Record, n: usize, text: &[u8]) -> Record {
+    let m = within(n, text.len());
+    told(rec.with_dd(&text[..m], &text[m..]))
 }
 
-fn add_one(s: &[u8], at: usize, tag: usize, rec: Record) -> Record
-    requires { ⌜ at < 900000 ⌝ }
-{
-    let text = text_at(s, at);
-    if tag == 117 {
-        return told(rec.with_unit(text));
-    }
-    told(rec.with(attribute(tag), text))
-}
-
-pub(crate) fn add(s: &[u8], at: usize, rec: Record) -> Step
-    requires { ⌜ at < 800000 ⌝ }
-    ensures { λ r. ⌜ at < r .next ⌝ }
-{
-    let tag = byte_at(s, at);
-    if tag == 100 {
-        return add_dd(s, at + 1, rec);
-    }
-    Step {
-        record: add_one(s, at + 1, tag, rec),
-        next: past_text(s, at + 1),
-    }
-}
-
-// A length or a count: 255 stands for the largest there is.
-fn number(b: usize) -> usize {
-    if b == 255 { 0xffff_ffff_ffff_ffff } else { b }
-}
-
-fn disturb_value(rec: Record, k: usize, n: usize) -> Record {
-    let mut next = rec;
-    let mut singles = next.singles;
+fn disturb_values(old: Singles, k: usize, n: usize) -> Singles {
+    let mut next = old;
     if k < SINGLES {
-        let mut value = singles.values[k];
+        let mut value = next.values[k];
         value.len = n;
-        singles.values[k] = value;
+        next.values[k] = value;
     }
-    next.singles = singles;
     next
 }
 
-fn disturb_unit(rec: Record, i: usize, n: usize) -> Record {
-    let mut next = rec;
-    let mut units = next.units;
+fn disturb_names(old: Units, i: usize, n: usize) -> Units {
+    let mut next = old;
     if i < MOST {
-        let mut name = units.names[i];
+        let mut name = next.names[i];
         name.len = n;
-        units.names[i] = name;
+        next.names[i] = name;
     }
-    next.units = units;
     next
 }
 
-fn disturb_dd(rec: Record, i: usize, n: usize, of_type: bool) -> Record {
-    let mut next = rec;
-    let mut dds = next.dds;
+// M sets a length, U the count.
+fn disturb_units(old: Units, tag: u8, i: usize, n: usize) -> Units {
+    if tag == b'M' {
+        return disturb_names(old, i, n);
+    }
+    let mut next = old;
+    next.count = n;
+    next
+}
+
+fn disturb_items(old: Dds, of_type: bool, i: usize, n: usize) -> Dds {
+    let mut next = old;
     if i < MOST {
-        let mut item = dds.items[i];
-        let mut kind = item.kind;
-        let mut value = item.value;
+        let mut item = next.items[i];
         if of_type {
+            let mut kind = item.kind;
             kind.len = n;
+            item.kind = kind;
         } else {
+            let mut value = item.value;
             value.len = n;
+            item.value = value;
         }
-        item.kind = kind;
-        item.value = value;
-        dds.items[i] = item;
+        next.items[i] = item;
     }
-    next.dds = dds;
     next
 }
 
-fn disturb_counts(rec: Record, of_units: bool, n: usize) -> Record {
-    let mut next = rec;
-    let mut units = next.units;
-    let mut dds = next.dds;
-    if of_units {
-        units.count = n;
+// T and V set a length, D the count.
+fn disturb_dds(old: Dds, tag: u8, i: usize, n: usize) -> Dds {
+    if tag == b'D' {
+        let mut next = old;
+        next.count = n;
+        return next;
+    }
+    disturb_items(old, tag == b'T', i, n)
+}
+
+// The length or the count that a number stands for.
+fn size(n: usize) -> usize {
+    if n == LARGEST {
+        0xffff_ffff_ffff_ffff
     } else {
-        dds.count = n;
+        n
     }
-    next.units = units;
-    next.dds = dds;
+}
+
+fn disturb(rec: Record, tag: u8, place: usize, n: usize) -> Record {
+    let mut next = rec;
+    if tag == b'L' {
+        next.singles = disturb_values(rec.singles, place, n);
+        return next;
+    }
+    if tag == b'M' || tag == b'U' {
+        next.units = disturb_units(rec.units, tag, place, n);
+        return next;
+    }
+    next.dds = disturb_dds(rec.dds, tag, place, n);
     next
 }
 
-// L, M, T and V set the length at a place to n, U and D a count to what the place stands for; any other byte does nothing.
-fn disturbed(tag: usize, place: usize, n: usize, rec: Record) -> Record {
+// The record after a command with a number and bytes.
+pub(crate) fn change(tag: u8, n: usize, text: &[u8], rec: Record) -> Record {
     match tag {
-        76 => disturb_value(rec, place, n),
-        77 => disturb_unit(rec, place, n),
-        84 => disturb_dd(rec, place, n, true),
-        86 => disturb_dd(rec, place, n, false),
-        85 => disturb_counts(rec, true, number(place)),
-        68 => disturb_counts(rec, false, number(place)),
-        _ => rec,
-    }
-}
-
-// How many bytes a command that disturbs has.
-fn width(tag: usize) -> usize
-    ensures { λ r. ⌜ (0 < r) × (r < 4) ⌝ }
-{
-    match tag {
-        76 | 77 | 84 | 86 => 3,
-        85 | 68 => 2,
-        _ => 1,
-    }
-}
-
-pub(crate) fn disturb(s: &[u8], at: usize, rec: Record) -> Step
-    requires { ⌜ at < 800000 ⌝ }
-    ensures { λ r. ⌜ at < r .next ⌝ }
-{
-    let tag = byte_at(s, at);
-    let place = byte_at(s, at + 1);
-    let n = number(byte_at(s, at + 2));
-    Step {
-        record: disturbed(tag, place, n, rec),
-        next: at + width(tag),
+        b'L' | b'M' | b'T' | b'V' | b'U' | b'D' => disturb(
+            rec,
+            tag,
+            byte_at(text, 0) as usize,
+            size(n),
+        ),
+        b'd' => add_dd(rec, n, text),
+        b'u' => told(rec.with_unit(text)),
+        _ => told(rec.with(attribute(tag), text)),
     }
 }

@@ -1,114 +1,103 @@
-// Runs the cases of `chars` and `oraddr` that stand in stdin, and prints what comes of each. The cases and what must be
+// Runs the cases of `chars` and of the crates of the record that stand in stdin, and prints what comes of each. The cases and what must be
 // printed are made by tests/record_cases.py, which follows document 01 by itself and runs nothing of the library.
 //
-// First come the byte classes and the fold, each over all 256 bytes. Then standard input is a run of commands, each one
-// byte and what belongs to it; a text is one byte for its length and then its bytes:
-//   c a p o s g i q TEXT     add C, ADMD, PRMD, O, S, G, I or GQ; prints the number
-//   u TEXT, d TEXT TEXT      add a unit, or a DD of a type and a value; prints the number
-//   L k n, U n, M i n, D n, T i n, V i n    make the length of value k, the count of units, the length of unit i, the
-//                            count of DDs, the length of DD i's type or of its value n, as a caller may
-//   >                        keep the record, and begin another
-//   .                        print whether it is canonical, whether it is the same as the one kept, and what it holds;
-//                            then begin anew
-//   w TEXT                   print the rules on whole texts that it keeps
+// Standard input is lines, each a command, a number of four decimal digits, and bytes in hexadecimal:
+//   c a p o s g i q    add the bytes as C, ADMD, PRMD, O, S, G, I or GQ; prints the number
+//   u, d               add a unit, or a DD whose type is as many bytes as the number says, and its value the others; prints the number
+//   L, M, T, V         make the length of value, unit, DD type or DD value k, which is the byte, the number, as a caller may
+//   U, D               make the count of units or of DDs the number
+//   >                  keep the record, and begin another
+//   .                  print whether it is canonical, whether it is the same as the one kept, and what it holds; then begin anew
+//   b                  print the classes that have the byte, and its fold
+//   w                  print the rules on whole texts that the bytes keep
+// The number 9999 stands for the largest length or count there is.
 mod commands;
 mod print;
-mod tables;
+mod rules;
 
-use commands::Step;
-use commands::add;
-use commands::disturb;
+use cases::lines::line_end;
+use cases::read::number;
+use cases::read::unhex;
+use commands::change;
 use oraddr::record::Record;
+use oraddr::value::held;
 use print::print_record;
-use tables::print_tables;
-use tables::print_text_rules;
-ghost use Prim.Native.Nat.{_<_, _≤_};
-ghost use lib.ListN.{length};
+use rules::print_byte;
+use rules::print_text;
 
 // Standard input, at most.
 const ROOM: usize = 262144;
 
-// Whether a command adds an attribute.
-fn adds(tag: u8) -> bool {
-    match tag {
-        b'c' | b'a' | b'p' | b'o' | b's' | b'g' | b'i' | b'q' | b'u' | b'd' => true,
-        _ => false,
-    }
-}
+// The bytes of a line, at most.
+const TEXT: usize = 512;
 
-// A command that changes the record.
-fn change(s: &[u8], at: usize, tag: u8, rec: Record) -> Step
-    requires { ⌜ at < 800000 ⌝ }
-    ensures { λ r. ⌜ at < r .next ⌝ }
-{
-    if adds(tag) {
-        return add(s, at, rec);
-    }
-    disturb(s, at, rec)
-}
-
-// The record that commands change, the one that was kept, and where the next command starts.
-struct Turn {
+// The record that commands change, and the one that was kept.
+struct Pair {
     record: Record,
     kept: Record,
-    next: usize,
 }
 
-// One command.
-fn run_one(s: &[u8], at: usize, rec: Record, kept: Record) -> Turn
-    requires { ⌜ at < length (now s) ⌝ }
-    requires { ⌜ length (now s) ≤ 262144 ⌝ }
-    ensures { λ r. ⌜ at < r .next ⌝ }
-{
-    let tag = s[at];
+fn empty_pair() -> Pair {
+    Pair {
+        record: Record::empty(),
+        kept: Record::empty(),
+    }
+}
+
+fn run_record(tag: u8, n: usize, text: &[u8], mut pair: Pair) -> Pair {
+    let rec = pair.record;
     if tag == b'.' {
+        let kept = pair.kept;
         print_record(rec, kept);
-        return Turn {
-            record: Record::empty(),
-            kept: Record::empty(),
-            next: at + 1,
-        };
+        return empty_pair();
     }
     if tag == b'>' {
-        return Turn {
-            record: Record::empty(),
-            kept: rec,
-            next: at + 1,
-        };
+        pair.kept = rec;
+        pair.record = Record::empty();
+        return pair;
+    }
+    pair.record = change(tag, n, text, rec);
+    pair
+}
+
+fn run_command(tag: u8, n: usize, text: &[u8], pair: Pair) -> Pair {
+    if tag == b'b' {
+        print_byte(text);
+        return pair;
     }
     if tag == b'w' {
-        return Turn {
-            record: rec,
-            kept,
-            next: print_text_rules(s, at),
-        };
+        print_text(text);
+        return pair;
     }
-    let step = change(s, at, tag, rec);
-    let changed = step.record;
-    Turn {
-        record: changed,
-        kept,
-        next: step.next,
+    run_record(tag, n, text, pair)
+}
+
+fn run_line(line: &[u8], pair: Pair) -> Pair {
+    if line.len() < 5 {
+        return pair;
+    }
+    let mut space = [0u8; TEXT];
+    let n = unhex(&mut space, &line[5..]);
+    run_command(line[0], number(&line[1..]), held(&space, n), pair)
+}
+
+fn run(s: &[u8]) {
+    let mut pair = empty_pair();
+    let mut from = 0;
+    while from < s.len() {
+        let end = line_end(s, from);
+        pair = run_line(&s[from..end], pair);
+        from = end + 1;
     }
 }
 
-fn run(s: &[u8])
-    requires { ⌜ length (now s) ≤ 262144 ⌝ }
-{
-    let mut rec = Record::empty();
-    let mut kept = Record::empty();
-    let mut at = 0;
-    while at < s.len() {
-        let done = run_one(s, at, rec, kept);
-        rec = done.record;
-        kept = done.kept;
-        at = done.next;
-    }
+// Reads standard input, and runs it.
+fn read_and_run(space: &mut [u8]) {
+    let n = io::read_full(libc::STDIN_FILENO, space);
+    run(&space[..n]);
 }
 
 fn main() {
-    print_tables();
     let mut space = [0u8; ROOM];
-    let n = io::read_full(libc::STDIN_FILENO, &mut space);
-    run(&space[..n]);
+    read_and_run(&mut space);
 }

@@ -1,8 +1,7 @@
 // What the program prints of a record.
-ghost use Prim.Native.Nat.{_≤_};
-ghost use lib.ListN.{length};
-use libc::STDOUT_FILENO;
-use oraddr::bounds::MOST;
+use cases::print::say;
+use cases::print::say_number;
+use oraddr::bounds::LEVELS;
 use oraddr::bounds::SINGLES;
 use oraddr::record::Dds;
 use oraddr::record::Record;
@@ -12,27 +11,22 @@ use oraddr::value::DdValue;
 use oraddr::value::DomainDefined;
 use oraddr::value::OrgUnit;
 use oraddr::value::Value;
-
-// One digit.
-pub(crate) fn digit(n: u64) {
-    io::print_decimal(STDOUT_FILENO, n);
-}
+use oraddr::value::held;
+use oraddr_canonical::canonical::is_canonical;
+use oraddr_same::same::same_record;
+ghost use Prim.Native.Nat.{_≤_};
+ghost use lib.ListN.{length};
 
 pub(crate) fn flag(b: bool) {
-    if b {
-        digit(1);
-    } else {
-        digit(0);
-    }
+    say_number(b as usize);
 }
 
-pub(crate) fn line_end() {
-    io::write_all(STDOUT_FILENO, b"\n");
+pub(crate) fn space() {
+    say(b" ");
 }
 
-fn text(s: &[u8]) {
-    io::write_all(STDOUT_FILENO, s);
-    io::write_all(STDOUT_FILENO, b"|");
+pub(crate) fn new_line() {
+    say(b"\n");
 }
 
 // How many bytes are not 0 from a place on.
@@ -50,36 +44,31 @@ fn dirt(s: &[u8], from: usize) -> usize
     n
 }
 
-// Prints the first n bytes of a room, and how many bytes past them are not 0.
-fn print_room(room: &[u8], n: usize)
-    requires { ⌜ n ≤ length (now room) ⌝ }
-{
-    text(&room[..n]);
-    digit(dirt(room, n) as u64);
+// Prints the text of n bytes at the front of a room, and how many bytes past it are not 0.
+fn print_room(room: &[u8], n: usize) {
+    say(held(room, n));
+    say(b"|");
+    say_number(dirt(room, n));
 }
 
 fn print_value(v: Value) {
-    let n = v.size();
     let bytes = v.bytes;
-    print_room(&bytes, n);
+    print_room(&bytes, v.size());
 }
 
 fn print_unit(v: OrgUnit) {
-    let n = v.size();
     let bytes = v.bytes;
-    print_room(&bytes, n);
+    print_room(&bytes, v.size());
 }
 
 fn print_kind(v: DdType) {
-    let n = v.size();
     let bytes = v.bytes;
-    print_room(&bytes, n);
+    print_room(&bytes, v.size());
 }
 
 fn print_dd_value(v: DdValue) {
-    let n = v.size();
     let bytes = v.bytes;
-    print_room(&bytes, n);
+    print_room(&bytes, v.size());
 }
 
 fn print_dd(d: DomainDefined) {
@@ -95,28 +84,26 @@ fn print_singles(rec: Record) {
     }
 }
 
-// All four places: those past the count are to be empty in a record that only additions made.
+// All places: those past the count are to be empty in a record that only additions made.
 fn print_units(units: Units) {
-    digit(units.size() as u64);
-    let mut i = 0;
-    while i < MOST {
-        print_unit(units.names[i]);
-        i += 1;
-    }
+    say_number(units.size());
+    print_unit(units.names[0]);
+    print_unit(units.names[1]);
+    print_unit(units.names[2]);
+    print_unit(units.names[3]);
 }
 
 fn print_dds(dds: Dds) {
-    digit(dds.size() as u64);
-    let mut i = 0;
-    while i < MOST {
-        print_dd(dds.items[i]);
-        i += 1;
-    }
+    say_number(dds.size());
+    print_dd(dds.items[0]);
+    print_dd(dds.items[1]);
+    print_dd(dds.items[2]);
+    print_dd(dds.items[3]);
 }
 
 fn print_levels(rec: Record) {
     let mut k = 0;
-    while k < 8 {
+    while k < LEVELS {
         print_value(rec.level(k));
         k += 1;
     }
@@ -124,10 +111,10 @@ fn print_levels(rec: Record) {
 
 // A space, whether it is canonical, whether it is the same as the other, and a space.
 fn print_flags(rec: Record, other: Record) {
-    io::write_all(STDOUT_FILENO, b" ");
-    flag(rec.is_canonical());
-    flag(rec.same(other));
-    io::write_all(STDOUT_FILENO, b" ");
+    space();
+    flag(is_canonical(rec));
+    flag(same_record(rec, other));
+    space();
 }
 
 // The flags, the attributes and the levels.
@@ -137,5 +124,5 @@ pub(crate) fn print_record(rec: Record, other: Record) {
     print_units(rec.units);
     print_dds(rec.dds);
     print_levels(rec);
-    line_end();
+    new_line();
 }

@@ -17,7 +17,7 @@ use Rattle.chars.proofs.Laws.Lists.{all-and, all-append, all-drop, all-weaken, 
 use Rattle.chars.proofs.Laws.Seq.{map-drop}
 use Rattle.oraddr.specs.Add.{addDd, addSingle, addUnit, outcome, pushDd, pushUnit, setSingle}
 use Rattle.oraddr.specs.Attributes.{noDd, singleOf}
-use Rattle.oraddr.specs.Bounds.{DD-TYPE, DD-VALUE, O, OU, boundOf, isValue, most, rule}
+use Rattle.oraddr.specs.Bounds.{DD-TYPE, DD-VALUE, O, OU, boundOf, isValue, most, rule, singles}
 use Rattle.oraddr.specs.Canonical.{isDd, isUnit}
 use Rattle.oraddr.specs.View.{clean, cleanDd, cleanDds, cleanSingles, cleanText, cleanUnits, ddInRange, ddValueOf, ddValueView, ddView, ddsInRange, ddsView, domainDefinedOf, emptyRecord, inRange, kindOf, kindView, orgUnitOf, singlesInRange, singlesView, unitView, unitsInRange, unitsView, valueOf, valueView, view}
 use Rattle.oraddr.specs.declared.record.Record.{Record}
@@ -33,7 +33,7 @@ use Rattle.oraddr.proofs.Laws.View.{outcome-keeps, rule-length, single-
 
 -- the arrays are as long as their types say
 pub record Shaped (r : Record) : Type 0 where
-  pub values : length (r .singles .values) ≡ 8
+  pub values : length (r .singles .values) ≡ singles
   pub names : length (r .units .names) ≡ most
   pub items : length (r .dds .items) ≡ most
 
@@ -127,7 +127,7 @@ module _ (r : Record) (m : Made r) where
     cleaned = and-both (and-both (cleans .0) (cleans .1)) (push-clean cleanDd (λ i. eqb (i .kind .len) 0 && eqb (i .value .len) 0) (r .dds .items) (r .dds .count) (domainDefinedOf t v) (cleans .2) (and-both (made-clean t (boundOf DD-TYPE)) (made-clean v (boundOf DD-VALUE))));
   }
 
-  pub made-single : (k : ℕ) (v : List ℕ) → k < 8 → Made (addSingle r k v .record')
+  pub made-single : (k : ℕ) (v : List ℕ) → k < singles → Made (addSingle r k v .record')
   unfolding addSingle
   made-single k v l =
       let free = eqb (getD (r .singles .values) k (valueOf []) .len) 0 in
@@ -430,7 +430,3 @@ module _ (r : Record) (m : Made r) where
   dd-added t v h l =
       let few : r .dds .count < most = omega (arith, dd-count) in
       rw (h, lt-ltb (r .dds .count) most few) (refl, rw (view-push-dd (r .dds) t v (omega (arith, m .shaped .items))))
-
-  pub dd-refused : (t v : List ℕ) → (isDd (record { kind = t; value = v }) && ltb (length (view r .dds)) most) ≡ false → addDd r t v ≡ record { number = 4; record' = r }
-  unfolding addDd outcome
-  dd-refused t v h = rw (dd-count, h)

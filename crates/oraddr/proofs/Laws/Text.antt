@@ -1,16 +1,14 @@
 -- Laws of a text in its room: a struct made of a text shows that text, has its length, and is clean past it. Said once over
--- the room, then of each struct. And `map` with `take`.
+-- the room, then of each struct.
 -- Assumes nothing.
-use mathlib.Core.Path.{_≡_, refl, ap, _∙_}
-use Prim.Native.Nat.{ℕ, zero, suc, _≤_, min}
+use mathlib.Core.Path.{_≡_, refl, _∙_}
+use Prim.Native.Nat.{ℕ, zero, suc, _≤_}
 use mathlib.Core.Bool.{true, false, and-true}
-use mathlib.Core.List.{List, [], _∷_, map}
-use native.Mathlib.Nat.{zero-lt-suc}
+use mathlib.Core.List.{List, [], _∷_}
 use native.Mathlib.Omega.{arith}
-use borrow.Author.Tests.{lt-ltb}
-use lib.Dec.{eqb, ltb}
-use lib.ListN.{length, getD, take, drop, replicate, length-take, length-replicate}
-use Rattle.chars.specs.Lists.{all, nonEmpty}
+use lib.Dec.{eqb}
+use lib.ListN.{length, getD, take, replicate, length-replicate}
+use Rattle.chars.specs.Lists.{all}
 use Rattle.chars.specs.Case.{agree, equalText}
 use Rattle.chars.specs.Write.{Wrote, front}
 use Rattle.chars.proofs.Laws.Lists.{all-drop}

@@ -5,12 +5,11 @@ use mathlib.Core.Path.{_≡_, refl, sym, ap, _∙_}
 use mathlib.Core.Bool.{Bool, true, false, _&&_}
 use mathlib.Core.List.{List, [], _∷_, _++_, map}
 use Prim.Native.Nat.{ℕ, zero, suc, _+_, _-_, _≤_, _<_}
-use native.Mathlib.Nat.{le-of-suc-le-suc, not-suc-le-zero}
 use native.Mathlib.Numerals.{add-one}
 use native.Mathlib.Omega.{arith}
 use lib.Dec.{eqb, leb, lit<}
 use borrow.Author.Tests.{eqb-true, leb-true}
-use lib.ListN.{length, drop, getD, replicate, take, set, length-map, length-take, List·getD-append, List·getD-map}
+use lib.ListN.{length, getD, replicate, take, set, length-map, List·getD-append, List·getD-map}
 use lib.Seq.{getD-append-add, getD-take, length-take-le, take-suc-set}
 use Rattle.chars.specs.Class.{isDigit, isLetter}
 use Rattle.chars.specs.Lists.{all}
@@ -20,7 +19,7 @@ use Rattle.chars.proofs.Laws.Lists.{all-at, and-left, and-right, by-test, or-ca
 use Rattle.chars.proofs.Laws.Case.{equal-path}
 use Rattle.chars.proofs.Laws.Seq.{map-set}
 use Rattle.oraddr.specs.Attributes.{Attributes, levels, singleOf, unitOf}
-use Rattle.oraddr.specs.Bounds.{ADMD, C, C-LETTERS, O, bounds, boundOf, isCountry, isSpace, isValue, most, rule}
+use Rattle.oraddr.specs.Bounds.{ADMD, C, C-LETTERS, O, bounds, boundOf, isCountry, isSpace, isValue, levelCount, most, ownLevels, rule, singles}
 use Rattle.oraddr.specs.Add.{outcome, placeOf, pushDd, pushUnit, setSingle}
 use Rattle.oraddr.specs.declared.add.Attribute as attribute
 use Rattle.oraddr.specs.declared.add.Attribute.{Attribute}
@@ -33,8 +32,8 @@ use Rattle.oraddr.proofs.Laws.Text.{view-dd, view-unit, view-value}
 
 -- ---- what a rule says of the length
 
--- an attribute that a record has once has one of the first eight numbers
-pub place-low : (a : Attribute) → placeOf a < 8
+-- an attribute that a record has once has one of the first numbers
+pub place-low : (a : Attribute) → placeOf a < singles
 place-low attribute.the-variants.C = lit< tt
 place-low attribute.the-variants.Admd = lit< tt
 place-low attribute.the-variants.Prmd = lit< tt
@@ -49,25 +48,25 @@ unfolding isValue
 value-length k v h = leb-true (length v) (boundOf k) (and-left (leb (length v) (boundOf k)) (isText v) h)
 
 -- an attribute that a record has once fits the room for one
-single-room : (k : ℕ) → k < 8 → boundOf k ≤ boundOf O
+single-room : (k : ℕ) → k < singles → boundOf k ≤ boundOf O
 unfolding all
 single-room k h =
     leb-true (boundOf k) (boundOf O)
-    (ap (λ b. leb b (boundOf O)) (sym (getD-take 8 bounds k 0 h))
-    ∙ all-at (λ b. leb b (boundOf O)) (take 8 bounds) k 0 refl h)
+    (ap (λ b. leb b (boundOf O)) (sym (getD-take singles bounds k 0 h))
+    ∙ all-at (λ b. leb b (boundOf O)) (take singles bounds) k 0 refl h)
 
 country-length : (v : List ℕ) → isCountry v ≡ true → length v ≤ boundOf O
 unfolding isCountry
 country-length v h =
     or-cases (eqb (length v) (boundOf C-LETTERS) && all isLetter v) (eqb (length v) (boundOf C) && all isDigit v) h
-    (λ e. omega (arith, eqb-true (length v) 2 (and-left (eqb (length v) (boundOf C-LETTERS)) (all isLetter v) e)))
-    (λ e. omega (arith, eqb-true (length v) 3 (and-left (eqb (length v) (boundOf C)) (all isDigit v) e)))
+    (λ e. omega (arith, eqb-true (length v) (boundOf C-LETTERS) (and-left (eqb (length v) (boundOf C-LETTERS)) (all isLetter v) e)))
+    (λ e. omega (arith, eqb-true (length v) (boundOf C) (and-left (eqb (length v) (boundOf C)) (all isDigit v) e)))
 
 space-length : (v : List ℕ) → isSpace v ≡ true → length v ≤ boundOf O
 unfolding isSpace
 space-length v h = omega (arith, ap length (equal-path v (32 ∷ []) h))
 
-pub rule-length : (k : ℕ) (v : List ℕ) → rule k v ≡ true → k < 8 → length v ≤ boundOf O
+pub rule-length : (k : ℕ) (v : List ℕ) → rule k v ≡ true → k < singles → length v ≤ boundOf O
 unfolding rule
 rule-length k v h l =
     by-test (eqb k C)
@@ -90,32 +89,32 @@ module _ {A : Type 0} where
   getD-filled (x ∷ l) n zero d = refl
   getD-filled (x ∷ l) n (suc j) d = getD-filled l n j d
 
-module _ (a : Attributes) (k : ℕ) (l : length (a .single) ≡ 8) where
-  own : length (take 4 (a .single)) ≡ 4
-  own = length-take-le 4 (a .single) (omega arith)
+module _ (a : Attributes) (k : ℕ) (l : length (a .single) ≡ singles) where
+  own : length (take ownLevels (a .single)) ≡ ownLevels
+  own = length-take-le ownLevels (a .single) (omega arith)
 
-  -- C, ADMD, PRMD and O are the first four levels
-  pub level-own : k < 4 → getD (levels a) k [] ≡ singleOf a k
+  -- C, ADMD, PRMD and O are the first levels
+  pub level-own : k < ownLevels → getD (levels a) k [] ≡ singleOf a k
   unfolding levels singleOf
   level-own h =
-      List·getD-append (take 4 (a .single)) (take most (a .units ++ replicate most [])) [] k (omega (arith, own))
-      ∙ getD-take 4 (a .single) k [] h
+      List·getD-append (take ownLevels (a .single)) (take most (a .units ++ replicate most [])) [] k (omega (arith, own))
+      ∙ getD-take ownLevels (a .single) k [] h
 
   -- the units are the others
-  pub level-unit : 4 ≤ k → k < 8 → getD (levels a) k [] ≡ unitOf a (k - 4)
+  pub level-unit : ownLevels ≤ k → k < levelCount → getD (levels a) k [] ≡ unitOf a (k - ownLevels)
   unfolding levels unitOf
   level-unit h m =
-      ap (λ i. getD (take 4 (a .single) ++ take most (a .units ++ replicate most [])) i []) (past h)
-      ∙ getD-append-add (take 4 (a .single)) (take most (a .units ++ replicate most [])) (k - 4) []
-      ∙ getD-take most (a .units ++ replicate most []) (k - 4) [] (omega arith)
-      ∙ getD-filled (a .units) most (k - 4) []
+      ap (λ i. getD (take ownLevels (a .single) ++ take most (a .units ++ replicate most [])) i []) (past h)
+      ∙ getD-append-add (take ownLevels (a .single)) (take most (a .units ++ replicate most [])) (k - ownLevels) []
+      ∙ getD-take most (a .units ++ replicate most []) (k - ownLevels) [] (omega arith)
+      ∙ getD-filled (a .units) most (k - ownLevels) []
     where
-      past : 4 ≤ k → k ≡ length (take 4 (a .single)) + (k - 4)
+      past : ownLevels ≤ k → k ≡ length (take ownLevels (a .single)) + (k - ownLevels)
       past h = omega (arith, own)
 
 -- ---- the empty record
 
-pub view-empty : view emptyRecord ≡ record { single = replicate 8 []; units = []; dds = [] }
+pub view-empty : view emptyRecord ≡ record { single = replicate singles []; units = []; dds = [] }
 unfolding view singlesView unitsView ddsView valueView valueOf orgUnitOf domainDefinedOf kindOf ddValueOf front
 view-empty = refl
 
@@ -127,7 +126,7 @@ pub view-set-single : (r : Record) (k : ℕ) (v : List ℕ)
 unfolding view singlesView setSingle
 view-set-single r k v = rw (map-set valueView (r .singles .values) k (valueOf v), view-value v)
 
--- what stands at a place of the attributes that a record has once, past the eighth too
+-- what stands at a place of the attributes that a record has once, past the last too
 pub single-view : (s : Singles) (k : ℕ) → getD (singlesView s) k [] ≡ valueView (getD (s .values) k (valueOf []))
 unfolding singlesView valueOf valueView front
 single-view s k = List·getD-map valueView (s .values) k (valueOf [])

@@ -1,28 +1,40 @@
--- `record_cases::run` is safe and ends: each command leaves less of the input.
+-- `record_cases::run` is safe and ends: each line leaves less of the input.
 -- Assumes nothing.
 use borrow.Author.Needs.{needs}
-use Prim.Native.Nat.{_≤_, _-_}
+use Prim.Native.Nat.{_+_, _-_, _≤_}
 use lib.ListN.{length}
 use Rattle.record_cases.proofs.run.Statement.{statement}
 use Rattle.record_cases.proofs.run.Tie as tie
 
 abbrev Inv-loop : tie.InvT-loop
-Inv-loop s rec₀ kept₀ at₀ rec kept at = length s ≤ 262144
+Inv-loop s pair₀ from₀ pair from = from ≤ length s + 1
 
 abbrev μ-loop : tie.MeasureT-loop
-μ-loop s rec₀ kept₀ at₀ rec kept at = length s - at
+μ-loop s pair₀ from₀ pair from = length s - from
 
-empty-requires : tie.Need-empty-requires Inv-loop μ-loop
-empty-requires c κs = search needs
-
-empty-requires-2 : tie.Need-empty-requires-2 Inv-loop μ-loop
-empty-requires-2 c κs = search needs
+empty-pair-requires : tie.Need-empty-pair-requires Inv-loop μ-loop
+empty-pair-requires c κs = search needs
 
 loop-holds : tie.Need-loop-holds Inv-loop μ-loop
 loop-holds c = search needs
 
-run-one-requires : tie.Need-run-one-requires Inv-loop μ-loop
-run-one-requires c κs = search needs
+line-end-requires : tie.Need-line-end-requires Inv-loop μ-loop
+line-end-requires c κs = search needs
+
+sub-run-line : tie.Need-sub-run-line Inv-loop μ-loop
+sub-run-line c = search needs
+
+part-run-line-start : tie.Need-part-run-line-start Inv-loop μ-loop
+part-run-line-start c = search needs
+
+part-run-line-end : tie.Need-part-run-line-end Inv-loop μ-loop
+part-run-line-end c = search needs
+
+run-line-requires : tie.Need-run-line-requires Inv-loop μ-loop
+run-line-requires c κs = search needs
+
+add-from : tie.Need-add-from Inv-loop μ-loop
+add-from c = search needs
 
 loop-less : tie.Need-loop-less Inv-loop μ-loop
 loop-less c = search needs
@@ -39,10 +51,14 @@ run-spec =
     (tie.spec
     Inv-loop
     μ-loop
-    empty-requires
-    empty-requires-2
+    empty-pair-requires
     loop-holds
-    run-one-requires
+    line-end-requires
+    sub-run-line
+    part-run-line-start
+    part-run-line-end
+    run-line-requires
+    add-from
     loop-less
     loop-again
     returns)

@@ -1,15 +1,16 @@
--- `record_cases::print::print_singles` is safe and ends: the loop counts up to 8.
+-- `record_cases::print::print_singles` is safe and ends: the loop counts up.
 -- Assumes nothing.
 use borrow.Author.Needs.{needs}
 use Prim.Native.Nat.{_≤_, _-_}
+use Rattle.oraddr.specs.Bounds.{singles}
 use Rattle.record_cases.proofs.print.print_singles.Statement.{statement}
 use Rattle.record_cases.proofs.print.print_singles.Tie as tie
 
 abbrev Inv-loop : tie.InvT-loop
-Inv-loop rec k₀ k = k ≤ 8
+Inv-loop rec k₀ k = k ≤ singles
 
 abbrev μ-loop : tie.MeasureT-loop
-μ-loop rec k₀ k = 8 - k
+μ-loop rec k₀ k = singles - k
 
 loop-holds : tie.Need-loop-holds Inv-loop μ-loop
 loop-holds c = search needs

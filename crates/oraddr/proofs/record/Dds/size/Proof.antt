@@ -5,6 +5,7 @@ use mathlib.Core.List.{map}
 use borrow.Author.Needs.{needs}
 use lib.ListN.{length-map}
 use Rattle.chars.proofs.Laws.Seq.{length-view}
+use Rattle.oraddr.specs.Bounds.{most}
 use Rattle.oraddr.specs.View.{ddView, ddsView}
 use Rattle.oraddr.proofs.record.Dds.size.Statement.{statement}
 use Rattle.oraddr.proofs.record.Dds.size.Tie as tie
@@ -16,7 +17,7 @@ returns : tie.Need-returns
 unfolding ddsView
 returns c =
     let u = c .before .args .self in
-    c .within .ensures ∙ sym (length-view (u .count) (map ddView (u .items)) 4 (length-map (u .items) ddView ∙ simp length-map at (c .before .good .0 .1 .1 .1 .0 .1 .0 .1)))
+    c .within .ensures ∙ sym (length-view (u .count) (map ddView (u .items)) most (length-map (u .items) ddView ∙ simp length-map at (c .before .good .0 .1 .1 .1 .0 .1 .0 .1)))
 
 pub size-spec : {M : Type 1} → statement M
 size-spec = tie.close (tie.spec within-requires returns)

@@ -1,20 +1,20 @@
--- `Record::level` meets its contract: the first four levels are attributes that a record has once, the others are units.
+-- `Record::level` meets its contract: the first levels are attributes that a record has once, the others are units.
 -- Assumes nothing.
 use mathlib.Core.Path.{_≡_, sym, ap, _∙_}
 use native.Mathlib.Omega.{arith}
 use borrow.Author.Needs.{needs}
-use lib.ListN.{length, take, length-map, length-take}
-use Rattle.chars.proofs.Laws.Seq.{part-is, part-length, part-within}
-use Rattle.oraddr.specs.Bounds.{boundOf, OU}
+use denote.Ref.{now}
+use lib.ListN.{length, length-map, length-take}
+use Rattle.oraddr.specs.Bounds.{OU, boundOf, singles}
 use Rattle.oraddr.specs.View.{singlesView, unitView, valueView, view}
 use Rattle.oraddr.proofs.Laws.Text.{view-value}
 use Rattle.oraddr.proofs.Laws.View.{level-own, level-unit}
 use Rattle.oraddr.proofs.record.Record.level.Statement.{statement}
 use Rattle.oraddr.proofs.record.Record.level.Tie as tie
 
-eight : (c : tie.Start) → length (view (c .args .self) .single) ≡ 8
+all-singles : (c : tie.Start) → length (view (c .args .self) .single) ≡ singles
 unfolding view singlesView
-eight c = length-map (c .args .self .singles .values) valueView ∙ simp length-map at (c .good .0 .1 .1 .0 .1 .1 .0 .1 .0 .1)
+all-singles c = length-map (c .args .self .singles .values) valueView ∙ simp length-map at (c .good .0 .1 .1 .0 .1 .1 .0 .1 .0 .1)
 
 single-requires : tie.Need-single-requires
 single-requires c κs = search needs
@@ -22,43 +22,34 @@ single-requires c κs = search needs
 returns : tie.Need-returns
 returns c =
     let at = c .before .before in
-    c .single .ensures ∙ sym (level-own (view (at .args .self)) (at .args .k) (eight at) (c .before .if1 .taken))
+    c .single .ensures ∙ sym (level-own (view (at .args .self)) (at .args .k) (all-singles at) (c .before .if1 .taken))
 
 unit-requires : tie.Need-unit-requires
 unit-requires c κs = search needs
 
-size-requires : tie.Need-size-requires
-size-requires c κs = search needs
+slice-aggregate-held : tie.Need-slice-aggregate-held
+slice-aggregate-held c = search needs
 
-array-share-prefix-bytes : tie.Need-array-share-prefix-bytes
-unfolding unitView
-array-share-prefix-bytes c =
-    let unit = c .before .before .unit .result in
-    part-within (unit .len) (unit .bytes) (c .before .size .result) (c .before .size .ensures)
-
-slice-aggregate-of : tie.Need-slice-aggregate-of
-unfolding unitView
-slice-aggregate-of c =
-    let unit = c .before .before .before .unit .result in
-    part-length (unit .len) (unit .bytes) (c .before .before .size .result) (c .before .before .size .ensures)
+held-requires : tie.Need-held-requires
+held-requires c κs = search needs
 
 of-requires : tie.Need-of-requires
 of-requires c κs =
     let unit = c .before .before .before .unit .result in
     let room : length (unit .bytes) ≡ boundOf OU = search needs in
-    omega (arith, length-take (c .before .before .size .result) (unit .bytes))
+    rw (c .held .ensures) (omega (arith, length-take (unit .len) (unit .bytes)))
 
 returns-2 : tie.Need-returns-2
 unfolding unitView
 returns-2 c =
-    let at = c .before .before .before in
-    let unit = at .before .unit .result in
-    let start = at .before .before .before in
+    let at = c .before .before .before .before in
+    let unit = at .unit .result in
+    let start = at .before .before in
     ap valueView (c .of .ensures)
-    ∙ view-value (take (at .size .result) (unit .bytes))
-    ∙ part-is (unit .len) (unit .bytes) (at .size .result) (at .size .ensures)
-    ∙ at .before .unit .ensures
-    ∙ sym (level-unit (view (start .args .self)) (start .args .k) (eight start) (at .before .before .if1 .left) (start .pre))
+    ∙ view-value (now (c .before .held .result))
+    ∙ c .before .held .ensures
+    ∙ at .unit .ensures
+    ∙ sym (level-unit (view (start .args .self)) (start .args .k) (all-singles start) (at .before .if1 .left) (start .pre))
 
 pub level-spec : {M : Type 1} → statement M
 level-spec =
@@ -67,8 +58,7 @@ level-spec =
     single-requires
     returns
     unit-requires
-    size-requires
-    array-share-prefix-bytes
-    slice-aggregate-of
+    slice-aggregate-held
+    held-requires
     of-requires
     returns-2)

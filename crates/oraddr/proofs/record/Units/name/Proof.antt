@@ -7,6 +7,7 @@ use native.Mathlib.Omega.{arith}
 use borrow.Author.Needs.{needs}
 use lib.ListN.{length-map, List·getD-eq-default}
 use Rattle.chars.proofs.Laws.Seq.{getD-view, length-view}
+use Rattle.oraddr.specs.Bounds.{most}
 use Rattle.oraddr.specs.View.{unitView, unitsView}
 use Rattle.oraddr.proofs.record.Units.name.Statement.{statement}
 use Rattle.oraddr.proofs.record.Units.name.Tie as tie
@@ -18,10 +19,10 @@ element-copy-out-result : tie.Need-element-copy-out-result
 unfolding unitsView
 element-copy-out-result c =
     let u = c .before .before .args .t1 in
-    omega (arith, c .before .size .ensures, length-view (u .count) (map unitView (u .names)) 4 (length-map (u .names) unitView ∙ simp length-map at (c .before .before .good .0 .1 .1 .1 .0 .1 .0 .1)))
+    omega (arith, c .before .size .ensures, length-view (u .count) (map unitView (u .names)) most (length-map (u .names) unitView ∙ simp length-map at (c .before .before .good .0 .1 .1 .1 .0 .1 .0 .1)))
 
 mul-result : tie.Need-mul-result
-mul-result c = let h : c .before .before .args .i < 4 = element-copy-out-result c in search needs
+mul-result c = let h : c .before .before .args .i < most = element-copy-out-result c in search needs
 
 returns : tie.Need-returns
 unfolding unitsView
@@ -29,9 +30,11 @@ returns c =
     let at = c .before .before .before .args in
     sym (getD-view unitView (at .t1 .names) (at .t1 .count) (at .i) (record { len = 0; bytes = [] }) (omega (arith, c .before .before .size .ensures)))
 
+no-unit-requires : tie.Need-no-unit-requires
+no-unit-requires c κs = search needs
+
 returns-2 : tie.Need-returns-2
-unfolding unitView
-returns-2 c = sym (List·getD-eq-default (unitsView (c .before .before .args .t1)) [] (omega arith))
+returns-2 c = c .no-unit .ensures ∙ sym (List·getD-eq-default (unitsView (c .before .before .before .args .t1)) [] (omega arith))
 
 pub name-spec : {M : Type 1} → statement M
-name-spec = tie.close (tie.spec size-requires mul-result element-copy-out-result returns returns-2)
+name-spec = tie.close (tie.spec size-requires mul-result element-copy-out-result returns no-unit-requires returns-2)

@@ -5,6 +5,7 @@ use mathlib.Core.List.{map}
 use borrow.Author.Needs.{needs}
 use lib.ListN.{length-map}
 use Rattle.chars.proofs.Laws.Seq.{length-view}
+use Rattle.oraddr.specs.Bounds.{most}
 use Rattle.oraddr.specs.View.{unitView, unitsView}
 use Rattle.oraddr.proofs.record.Units.size.Statement.{statement}
 use Rattle.oraddr.proofs.record.Units.size.Tie as tie
@@ -16,7 +17,7 @@ returns : tie.Need-returns
 unfolding unitsView
 returns c =
     let u = c .before .args .self in
-    c .within .ensures ∙ sym (length-view (u .count) (map unitView (u .names)) 4 (length-map (u .names) unitView ∙ simp length-map at (c .before .good .0 .1 .1 .1 .0 .1 .0 .1)))
+    c .within .ensures ∙ sym (length-view (u .count) (map unitView (u .names)) most (length-map (u .names) unitView ∙ simp length-map at (c .before .good .0 .1 .1 .1 .0 .1 .0 .1)))
 
 pub size-spec : {M : Type 1} → statement M
 size-spec = tie.close (tie.spec within-requires returns)

@@ -1,0 +1,28 @@
+-- `is_identified` meets its contract: the tests in the definition's order.
+-- Assumes nothing.
+use borrow.Author.Needs.{needs}
+use mathlib.Core.Path.{sym, _∙_}
+use Rattle.chars.proofs.Laws.Seq.{some-test}
+use Rattle.oraddr.specs.Canonical.{identified}
+use Rattle.oraddr.specs.View.{ddsView, view}
+use Rattle.oraddr_canonical.proofs.canonical.is_identified.Statement.{statement}
+use Rattle.oraddr_canonical.proofs.canonical.is_identified.Tie as tie
+
+has-requires : tie.Need-has-requires
+has-requires c κs = search needs
+
+returns : tie.Need-returns
+unfolding identified
+returns c = rw (sym (c .before .has .ensures) ∙ c .if1 .taken)
+
+size-requires : tie.Need-size-requires
+size-requires c κs = search needs
+
+returns-2 : tie.Need-returns-2
+unfolding identified view
+returns-2 c =
+    let at = c .before .before in
+    rw (sym (at .before .has .ensures) ∙ at .if1 .left, c .size .ensures) (some-test (ddsView (at .before .before .args .rec .dds)))
+
+pub is-identified-spec : {M : Type 1} → statement M
+is-identified-spec = tie.close (tie.spec has-requires returns size-requires returns-2)
