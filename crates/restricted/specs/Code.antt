@@ -11,7 +11,7 @@ use lib.ListN.{getD}
 use Rattle.chars.specs.Lists.{bytes, member, onto}
 use Rattle.chars.specs.Case.{foldCase}
 use Rattle.chars.specs.Class.{isSpecial}
-unfoldable pub use Rattle.chars.specs.Class.{isChar}
+use Rattle.chars.specs.Class.{isChar}
 use Rattle.chars.specs.Digits.{digitsNumber, isNumberGroup}
 
 -- ---- characters

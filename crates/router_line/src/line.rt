@@ -6,6 +6,7 @@ use mapping_to_address::to_address::ADDRESS_ROOM;
 use mapping_to_address::to_address::write_address;
 use mapping_to_record::to_record::map_address;
 use oraddr::record::Record;
+use oraddr_canonical::canonical::is_canonical;
 use ortext_read::read::Answer;
 use ortext_read::read::read_text;
 use ortext_write::write::write_text;
@@ -133,7 +134,7 @@ fn send_record(
     requires { ⌜ length (now dst) ≡ 2563 ⌝ }
     ensures { λ r. ⌜ Wrote (now (dst .entry)) 0 (readLine (outward (now (text .entry)) (now («to_domain» .entry)) table) (read rec)) r (now (dst .exit)) ⌝ }
 {
-    if !rec.is_canonical() {
+    if !is_canonical(rec) {
         return put_refusal(dst, 4);
     }
     let mut address = [0u8; ADDRESS_ROOM];

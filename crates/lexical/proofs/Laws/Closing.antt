@@ -11,7 +11,8 @@ use borrow.Author.Tests.{eqb-true}
 use lib.Dec.{eqb}
 use Rattle.chars.proofs.Laws.Lists.{by-test}
 use Rattle.mailaddr.specs.Shape.{closing, isText}
-use Rattle.mailaddr.proofs.Laws.Closing.{more-some, none-some, some-same}
+use Rattle.chars.proofs.Laws.Options.{none-some, some-same}
+use Rattle.mailaddr.proofs.Laws.Closing.{more-some}
 
 module _
     (P : List ℕ → ℕ → Type 0)

@@ -15,7 +15,8 @@ use lib.Seq.{drop-cons, drop-drop}
 use Rattle.chars.specs.Lists.{first}
 use Rattle.chars.proofs.Laws.Lists.{by-test, true-not-false}
 use Rattle.mailaddr.specs.Shape.{more}
-use Rattle.mailaddr.proofs.Laws.Closing.{more-more, more-some, none-some}
+use Rattle.chars.proofs.Laws.Options.{none-some}
+use Rattle.mailaddr.proofs.Laws.Closing.{more-more, more-some}
 use Rattle.lexical.specs.Comment.{comment, content, contentBy, contentStep, isCtext, pairStep}
 use Rattle.lexical.specs.Space.{isFold}
 use Rattle.lexical.specs.declared.comment.ContentStep.{ContentStep}

@@ -14,7 +14,7 @@ use lib.Seq.{drop-cons}
 use Rattle.chars.proofs.Laws.Lists.{and-three, by-test, or-cases, true-not-false}
 use Rattle.chars.proofs.Laws.Seq.{beyond, byte-inside, second, third}
 use Rattle.mailaddr.specs.Shape.{isText}
-use Rattle.mailaddr.proofs.Laws.Closing.{none-some, some-same}
+use Rattle.chars.proofs.Laws.Options.{none-some, some-same}
 use Rattle.lexical.specs.Space.{isFold, isSpace}
 use Rattle.lexical.specs.Quoted.{Quoted, keeping, meaningIn, passing, quoted, quotedBy, quotedStep, sizeIn, textStep}
 use Rattle.lexical.specs.Answers.{quotedEnd}

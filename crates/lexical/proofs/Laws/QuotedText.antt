@@ -12,7 +12,7 @@ use lib.ListN.{length, getD}
 use Rattle.chars.specs.Lists.{all}
 use Rattle.chars.proofs.Laws.Lists.{and-both, by-test}
 use Rattle.mailaddr.specs.Shape.{escaped, isText}
-use Rattle.mailaddr.proofs.Laws.Closing.{none-some, some-same}
+use Rattle.chars.proofs.Laws.Options.{none-some, some-same}
 use Rattle.lexical.specs.Space.{isFold}
 use Rattle.lexical.specs.Quoted.{Quoted, keeping, meaningIn, passing, quoted, quotedBy, quotedStep, sizeIn, textStep}
 use Rattle.lexical.specs.declared.quoted.QuotedStep.{QuotedStep}

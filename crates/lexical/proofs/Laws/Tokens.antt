@@ -17,7 +17,8 @@ use Rattle.chars.specs.Lists.{bytes, first, member}
 use Rattle.chars.proofs.Laws.Lists.{by-test, true-not-false}
 use Rattle.chars.proofs.Laws.Seq.{byte-inside, second, third}
 use Rattle.mailaddr.specs.Shape.{more}
-use Rattle.mailaddr.proofs.Laws.Closing.{more-some, none-some}
+use Rattle.chars.proofs.Laws.Options.{none-some}
+use Rattle.mailaddr.proofs.Laws.Closing.{more-some}
 use Rattle.lexical.specs.Answers.{Behind, Lexed, atomWord, quotedEnd, quotedWord, tokensBy, tokensOf}
 use Rattle.lexical.specs.Comment.{comment, content, contentBy, contentStep, deepestComment}
 use Rattle.lexical.specs.Quoted.{meaningIn, quoted, sizeIn}

@@ -16,8 +16,8 @@ use Rattle.chars.specs.Lists.{all}
 use Rattle.chars.specs.Class.{between}
 use Rattle.chars.specs.Write.{Wrote}
 use Rattle.chars.proofs.Laws.Lists.{and-left, and-right, by-test, true-not-false}
-pub use Rattle.chars.proofs.Laws.Lists.{neither}
-pub use Rattle.chars.proofs.Laws.Options.{none-some, some-same}
+use Rattle.chars.proofs.Laws.Lists.{neither}
+use Rattle.chars.proofs.Laws.Options.{none-some, some-same}
 use Rattle.chars.proofs.Laws.Seq.{beyond, drop-take, second}
 use Rattle.chars.proofs.Laws.Write.{sets-append}
 use Rattle.mailaddr.specs.Shape.{closing, escaped, inner, isText, more, unescaped}

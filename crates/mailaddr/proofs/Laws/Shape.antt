@@ -21,12 +21,12 @@ use Rattle.chars.proofs.Laws.Class.{atom-range}
 use Rattle.chars.proofs.Laws.Lists.{all-append, all-at, all-ext, all-weaken, and-both, and-left, and-right, by-test, first-append, first-at, last-append, last-at, last-cons, or-cases, true-not-false}
 use Rattle.chars.proofs.Laws.Parts.{clear, parted-all, parted-some, run-at}
 use Rattle.chars.proofs.Laws.Seq.{byte-inside, some-append}
-pub use Rattle.chars.proofs.Laws.Seq.{rest-of}
 use Rattle.chars.proofs.Laws.Spaces.{parted-spaced}
 use Rattle.mailaddr.specs.Shape.{Address, addressText, closing, escaped, inner, isReadable, isText, longestAddress, more, plainShape, quotedLocal, quotedShape, shapeOf, unescaped, unquotedLocal, withLocal}
 use Rattle.mailaddr.specs.Answers.{addressAt, fromShape, localAt, shaping}
 use Rattle.mailaddr.specs.declared.shape.Parted.{Parted}
-use Rattle.mailaddr.proofs.Laws.Closing.{closes, escaped-close, escaped-plain, inner-at, inner-none, length-escaped, more-some, none-some, some-same, unescape-escape}
+use Rattle.chars.proofs.Laws.Options.{none-some, some-same}
+use Rattle.mailaddr.proofs.Laws.Closing.{closes, escaped-close, escaped-plain, inner-at, inner-none, length-escaped, more-some, unescape-escape}
 
 -- ---- the bytes of atoms
 

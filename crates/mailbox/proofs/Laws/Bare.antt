@@ -11,7 +11,8 @@ use lib.ListN.{length, length-append}
 use Rattle.chars.specs.Lists.{all}
 use Rattle.chars.specs.Parts.{isAtoms}
 use Rattle.mailaddr.specs.Shape.{escaped, isText, shapeOf, unquotedLocal}
-use Rattle.mailaddr.proofs.Laws.Closing.{escaped-longer, none-some, some-same}
+use Rattle.chars.proofs.Laws.Options.{none-some, some-same}
+use Rattle.mailaddr.proofs.Laws.Closing.{escaped-longer}
 use Rattle.mailaddr.proofs.Laws.Shape.{IsLocal, quoted-text, shape-one, unquoted-text}
 use Rattle.lexical.specs.Tokens.{tokensAt}
 use Rattle.mailbox_address.specs.Grammar.{Mailbox, anyQuoted, mailbox, meaningOf}

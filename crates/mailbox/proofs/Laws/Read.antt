@@ -9,8 +9,7 @@ use borrow.Author.Tests.{eqb-true}
 use native.Mathlib.Omega.{arith}
 use lib.Dec.{eqb}
 use lib.ListN.{length}
-use Rattle.chars.proofs.Laws.Lists.{by-test, or-cases, true-not-false}
-use Rattle.mailaddr.proofs.Laws.Closing.{neither}
+use Rattle.chars.proofs.Laws.Lists.{by-test, neither, or-cases, true-not-false}
 use Rattle.lexical.specs.Answers.{tokensBy, tokensOf}
 use Rattle.lexical.specs.Tokens.{Token, Word, tokensAt, word}
 use Rattle.mailbox.specs.Answers.{ReadsMailbox, namedBy, toldMailbox, wholeRead}

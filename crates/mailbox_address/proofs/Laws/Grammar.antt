@@ -10,7 +10,7 @@ use borrow.Author.Tests.{eqb-true, not-true}
 use lib.Dec.{eqb}
 use Rattle.chars.specs.Lists.{all, nonEmpty}
 use Rattle.chars.proofs.Laws.Lists.{and-both, and-left, and-right, by-test}
-use Rattle.mailaddr.proofs.Laws.Closing.{none-some, some-same}
+use Rattle.chars.proofs.Laws.Options.{none-some, some-same}
 use Rattle.lexical.specs.Tokens.{Token, Word, bad, special, word}
 use Rattle.mailbox_address.specs.Grammar.{AddrSpec, Dotted, InRoute, Mailbox, addrSpec, addrSpecIn, allowed, alone, anyQuoted, atDomain, before, behind, behindSubDomain, closedBy, domain, dotted, element, ended, goingOn, localPart, mailbox, named, optionalRoute, orElse, phraseFrom, route, routeAddr, routeIn, subDomain, whole, withDomain, withLocal}
 use Rattle.lexical.proofs.Laws.Line.{TokensIn, WordIn, WordsIn, tokenBytes, tokens-tail, tokens-word, wordBytes}

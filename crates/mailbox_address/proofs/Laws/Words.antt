@@ -11,10 +11,10 @@ use Rattle.chars.specs.Class.{between, isAtomChar}
 use Rattle.chars.specs.Lists.{all, bytes, member, nonEmpty}
 use Rattle.chars.specs.Parts.{isAtoms, isPart, join}
 use Rattle.chars.proofs.Laws.Class.{atom-range}
-use Rattle.chars.proofs.Laws.Lists.{all-append, all-weaken, and-both, and-right, true-not-false}
+use Rattle.chars.proofs.Laws.Lists.{all-append, all-weaken, and-both, and-right, neither, true-not-false}
 use Rattle.chars.proofs.Laws.Parts.{parted-join}
 use Rattle.mailaddr.specs.Shape.{escaped, isText}
-use Rattle.mailaddr.proofs.Laws.Closing.{escaped-append, neither}
+use Rattle.mailaddr.proofs.Laws.Closing.{escaped-append}
 use Rattle.lexical.specs.Tokens.{Word}
 use Rattle.mailbox_address.specs.Grammar.{anyQuoted, meaningOf}
 use Rattle.lexical.proofs.Laws.Line.{Means, wordBytes}
