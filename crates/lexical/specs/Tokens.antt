@@ -50,13 +50,13 @@ atomRun [] = zero
 atomRun (x ∷ s) = cond (isAtomChar x) (suc (atomRun s)) zero
 
 -- the specials that the grammar of a mailbox has, quotes and comments aside
-unfoldable pub isSpecial : ℕ → Bool
+unfoldable pub isMailboxSpecial : ℕ → Bool
 unfolding bytes member
-isSpecial b = member b (bytes ".@<>,:")
+isMailboxSpecial b = member b (bytes ".@<>,:")
 
 -- the tokens of a text that begins at place i of its line, `skip` bytes being passed first
 unfoldable pub tokensFrom : ℕ → ℕ → List ℕ → List Token
-unfolding gap atomRun isAtomChar isSpecial quoted sizeIn meaningIn
+unfolding gap atomRun isAtomChar isMailboxSpecial quoted sizeIn meaningIn
 tokensFrom i skip [] = []
 tokensFrom i (suc skip) (x ∷ s) = tokensFrom (suc i) skip s
 tokensFrom i zero (x ∷ s) =
@@ -68,7 +68,7 @@ tokensFrom i zero (x ∷ s) =
     (word (record { start = i; end = suc (i + sizeIn (quoted zero false s)); isQuoted = true; meaning = meaningIn (quoted zero false s) })
     ∷ tokensFrom (suc i) (sizeIn (quoted zero false s)) s)
     (bad ∷ []))
-    (cond (isSpecial x) (special x ∷ tokensFrom (suc i) zero s) (bad ∷ []))))
+    (cond (isMailboxSpecial x) (special x ∷ tokensFrom (suc i) zero s) (bad ∷ []))))
 
 -- the tokens of a line from a place on
 unfoldable pub tokensAt : List ℕ → ℕ → List Token

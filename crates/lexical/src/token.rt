@@ -10,7 +10,7 @@ ghost use mathlib.Core.Path.{_≡_};
 ghost use Prim.Native.Nat.{_+_, _≤_, _<_};
 ghost use lib.ListN.{drop, length};
 ghost use Rattle.lexical.specs.Answers.{Behind, Lexed};
-ghost use Rattle.lexical.specs.Tokens.{atomRun, gap, isSpecial, longestLine};
+ghost use Rattle.lexical.specs.Tokens.{atomRun, gap, isMailboxSpecial, longestLine};
 
 // What a token is: an atom, a quoted string, a special, the line's end, or no token.
 pub enum Kind {
@@ -28,8 +28,8 @@ pub struct Lexeme {
     pub end: usize,
 }
 
-fn is_special(b: u8) -> bool
-    ensures { λ r. ⌜ r ≡ isSpecial b ⌝ }
+fn is_mailbox_special(b: u8) -> bool
+    ensures { λ r. ⌜ r ≡ isMailboxSpecial b ⌝ }
 {
     if b == b'.' {
         return true;
@@ -119,7 +119,7 @@ fn lex_at(s: &[u8], i: usize) -> Lexeme
             end,
         };
     }
-    if is_special(b) {
+    if is_mailbox_special(b) {
         return Lexeme {
             kind: Kind::Special(b),
             start: i,

@@ -19,7 +19,7 @@ use Rattle.mailaddr.proofs.Laws.Closing.{unescaped-plain}
 use Rattle.lexical.specs.Comment.{comment}
 use Rattle.lexical.specs.Quoted.{keeping, meaningIn, passing, quoted, quotedBy, quotedStep, sizeIn, textStep}
 use Rattle.lexical.specs.Space.{isFold, isSpace}
-use Rattle.lexical.specs.Tokens.{Word, atomRun, commentSize, gap, isSpecial, special, tokensFrom, word}
+use Rattle.lexical.specs.Tokens.{Word, atomRun, commentSize, gap, isMailboxSpecial, special, tokensFrom, word}
 use Rattle.lexical.proofs.Laws.Closing.{by-closing}
 
 -- ---- what is passed
@@ -67,11 +67,11 @@ tokens-atom i x w r h k =
 -- ---- a dot, and an `@`
 
 pub tokens-dot : (i : ℕ) (r : List ℕ) → tokensFrom i 0 (46 ∷ r) ≡ special 46 ∷ tokensFrom (suc i) 0 r
-unfolding tokensFrom isAtomChar between bytes member isSpecial isSpace
+unfolding tokensFrom isAtomChar between bytes member isMailboxSpecial isSpace
 tokens-dot i r = rw (gap-none 46 r refl refl refl)
 
 pub tokens-at : (i : ℕ) (r : List ℕ) → tokensFrom i 0 (64 ∷ r) ≡ special 64 ∷ tokensFrom (suc i) 0 r
-unfolding tokensFrom isAtomChar between bytes member isSpecial isSpace
+unfolding tokensFrom isAtomChar between bytes member isMailboxSpecial isSpace
 tokens-at i r = rw (gap-none 64 r refl refl refl)
 
 -- an atom does not go on with either, nor at the end of a text

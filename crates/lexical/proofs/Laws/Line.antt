@@ -17,7 +17,7 @@ use Rattle.chars.proofs.Laws.Lists.{all-weaken, and-both, by-test, true-not-fal
 use Rattle.mailaddr.specs.Shape.{escaped, isText}
 use Rattle.mailaddr.proofs.Laws.Closing.{escaped-plain}
 use Rattle.lexical.specs.Quoted.{meaningIn, quoted, sizeIn}
-use Rattle.lexical.specs.Tokens.{Token, Word, atomRun, bad, gap, isSpecial, special, tokensAt, tokensFrom, word}
+use Rattle.lexical.specs.Tokens.{Token, Word, atomRun, bad, gap, isMailboxSpecial, special, tokensAt, tokensFrom, word}
 use Rattle.lexical.proofs.Laws.Tokens.{atom-within}
 use Rattle.lexical.proofs.Laws.QuotedText.{quoted-closes}
 
@@ -138,7 +138,7 @@ first-token n i x s h t =
     (λ _. by-cond (ltb 0 (sizeIn (quoted zero false s)))
     (λ e. quoted-token n i s (tokensFrom (suc i) (sizeIn (quoted zero false s)) s) h (ltb-true 0 (sizeIn (quoted zero false s)) e) (t (sizeIn (quoted zero false s))))
     (λ _. bad-token))
-    (λ _. by-cond (isSpecial x)
+    (λ _. by-cond (isMailboxSpecial x)
     (λ _. special-token (looser {j = length s - zero} (omega arith) (t zero)))
     (λ _. bad-token))))
 

@@ -23,7 +23,7 @@ use Rattle.lexical.specs.Answers.{Behind, Lexed, atomWord, quotedEnd, qu
 use Rattle.lexical.specs.Comment.{comment, content, contentBy, contentStep, deepestComment}
 use Rattle.lexical.specs.Quoted.{meaningIn, quoted, sizeIn}
 use Rattle.lexical.specs.Space.{isFold, isSpace}
-use Rattle.lexical.specs.Tokens.{atomRun, bad, commentSize, gap, isSpecial, special, tokensAt, tokensFrom, word}
+use Rattle.lexical.specs.Tokens.{atomRun, bad, commentSize, gap, isMailboxSpecial, special, tokensAt, tokensFrom, word}
 use Rattle.lexical.specs.declared.comment.ContentStep.{ContentStep}
 use Rattle.lexical.specs.declared.comment.ContentStep.the-variants.{Break, Close, Fold, Open, Pair, Text}
 use Rattle.lexical.specs.declared.token.Kind.the-variants.{Atom, Bad, End, Quoted as QuotedKind, Special}
@@ -132,9 +132,9 @@ quote-no-atom : (x : ℕ) → x ≡ 34 → isAtomChar x ≡ false
 unfolding isAtomChar between bytes member
 quote-no-atom x e = rw e
 
-special-no-quote : (x : ℕ) → isSpecial x ≡ true → eqb x 34 ≡ false
-unfolding isSpecial bytes member
-special-no-quote x h = by-test (eqb x 34) (λ e. true-not-false (isSpecial x) h (rw (eqb-true x 34 e))) (λ e. e)
+special-no-quote : (x : ℕ) → isMailboxSpecial x ≡ true → eqb x 34 ≡ false
+unfolding isMailboxSpecial bytes member
+special-no-quote x h = by-test (eqb x 34) (λ e. true-not-false (isMailboxSpecial x) h (rw (eqb-true x 34 e))) (λ e. e)
 
 -- ---- the tokens from a place on, by what stands there
 
@@ -149,11 +149,11 @@ module _ (i x : ℕ) (t : List ℕ) where
   unfolding tokensFrom
   front-atom g a = rw (g, a)
 
-  front-special : gap (x ∷ t) ≡ 0 → isAtomChar x ≡ false → isSpecial x ≡ true → tokensFrom i 0 (x ∷ t) ≡ special x ∷ tokensFrom (suc i) 0 t
+  front-special : gap (x ∷ t) ≡ 0 → isAtomChar x ≡ false → isMailboxSpecial x ≡ true → tokensFrom i 0 (x ∷ t) ≡ special x ∷ tokensFrom (suc i) 0 t
   unfolding tokensFrom
   front-special g a b = rw (g, a, special-no-quote x b, b)
 
-  front-bad : gap (x ∷ t) ≡ 0 → isAtomChar x ≡ false → isSpecial x ≡ false → eqb x 34 ≡ false → tokensFrom i 0 (x ∷ t) ≡ bad ∷ []
+  front-bad : gap (x ∷ t) ≡ 0 → isAtomChar x ≡ false → isMailboxSpecial x ≡ false → eqb x 34 ≡ false → tokensFrom i 0 (x ∷ t) ≡ bad ∷ []
   unfolding tokensFrom
   front-bad g a b c = rw (g, a, c, b)
 
@@ -237,7 +237,7 @@ module _ (s : List ℕ) (i : ℕ) (h : i < length s) (g : gap (drop i s) ≡ 0) 
         };
       }
 
-  pub lex-special : isAtomChar (getD s i 0) ≡ false → isSpecial (getD s i 0) ≡ true
+  pub lex-special : isAtomChar (getD s i 0) ≡ false → isMailboxSpecial (getD s i 0) ≡ true
       → Lexed s i (record { kind = Special (getD s i 0); start = i; end = i + 1 })
   unfolding tokensOf tokensBy
   lex-special a b =
@@ -248,7 +248,7 @@ module _ (s : List ℕ) (i : ℕ) (h : i < length s) (g : gap (drop i s) ≡ 0) 
         stands = record { ordered = omega arith; high = omega arith; whole = omega arith };
       }
 
-  pub lex-bad : isAtomChar (getD s i 0) ≡ false → isSpecial (getD s i 0) ≡ false → (getD s i 0 ≡ 34 → ⊥)
+  pub lex-bad : isAtomChar (getD s i 0) ≡ false → isMailboxSpecial (getD s i 0) ≡ false → (getD s i 0 ≡ 34 → ⊥)
       → Lexed s i (record { kind = Bad; start = i; end = i })
   lex-bad a b c = bad-here (at-front s i h ∙ front-bad i (getD s i 0) (drop (suc i) s) none-here a b (ne-eqb (getD s i 0) 34 c))
 

@@ -11,11 +11,11 @@ use Rattle.mailbox_address.specs.Grammar.{addrSpec, allowed, alone, anyQuoted, 
 use Rattle.mailbox.specs.Mailbox.{bareIn, bareOf, emptyStart, read, reading, readingOf, tooDeep}
 use Rattle.lexical.specs.Nesting.{deepest, nestComment, nestOf, nestOutside, nestsTooDeep}
 use Rattle.lexical.specs.Space.{isFold, isSpace}
-use Rattle.lexical.specs.Tokens.{atomRun, commentSize, gap, isSpecial, tokensAt, tokensFrom}
+use Rattle.lexical.specs.Tokens.{atomRun, commentSize, gap, isMailboxSpecial, tokensAt, tokensFrom}
 use Rattle.lexical.proofs.Laws.Depth.{nested}
 
 pub eight-deep : reading (nested 8) ≡ read (record { local = bytes "a"; isQuoted = false; domain = bytes "b"; phrase = emptyStart })
-unfolding addrSpec allowed alone anyQuoted atDomain atomRun bareIn bareOf behind between bytes comment commentSize content contentBy contentStep deepest domain dotted ended first gap isAtomChar isFold isSpace isSpecial join localPart mailbox meaningOf member more nestComment nestOf nestOutside nestsTooDeep orElse reading readingOf tokensAt tokensFrom whole withDomain withLocal nested
+unfolding addrSpec allowed alone anyQuoted atDomain atomRun bareIn bareOf behind between bytes comment commentSize content contentBy contentStep deepest domain dotted ended first gap isAtomChar isFold isSpace isMailboxSpecial join localPart mailbox meaningOf member more nestComment nestOf nestOutside nestsTooDeep orElse reading readingOf tokensAt tokensFrom whole withDomain withLocal nested
 eight-deep = refl
 
 pub nine-deep : reading (nested 9) ≡ tooDeep
