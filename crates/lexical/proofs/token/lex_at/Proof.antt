@@ -33,8 +33,8 @@ returns-2 c =
     (c .atom-end .result)
     (c .atom-end .ensures)
 
-is-special-requires : tie.Need-is-special-requires
-is-special-requires c κs = search needs
+is-mailbox-special-requires : tie.Need-is-mailbox-special-requires
+is-mailbox-special-requires c κs = search needs
 
 add-t16 : tie.Need-add-t16
 add-t16 c = search needs
@@ -44,14 +44,14 @@ returns-3 c =
     let at = c .before .before .before .before .before .before .before in
     lex-special (at .args .s .now) (at .args .i) (omega arith) (at .pre .1)
     (sym (c .before .before .before .is-atom-char .ensures) ∙ c .before .before .if2 .left)
-    (sym (c .before .is-special .ensures) ∙ c .if3 .taken)
+    (sym (c .before .is-mailbox-special .ensures) ∙ c .if3 .taken)
 
 returns-4 : tie.Need-returns-4
 returns-4 c =
     let at = c .before .before .before .before .before .before .before .before in
     lex-bad (at .args .s .now) (at .args .i) (omega arith) (at .pre .1)
     (sym (c .before .before .before .before .is-atom-char .ensures) ∙ c .before .before .before .if2 .left)
-    (sym (c .before .before .is-special .ensures) ∙ c .before .if3 .left)
+    (sym (c .before .before .is-mailbox-special .ensures) ∙ c .before .if3 .left)
     (c .if4 .taken)
 
 add-quoted-end : tie.Need-add-quoted-end
@@ -93,7 +93,7 @@ lex-at-spec =
     add-atom-end
     atom-end-requires
     returns-2
-    is-special-requires
+    is-mailbox-special-requires
     add-t16
     returns-3
     returns-4
