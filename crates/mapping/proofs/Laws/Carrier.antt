@@ -35,7 +35,7 @@ use Rattle.table.specs.Rows.{between}
 use Rattle.table_lookup.specs.Lookup.{begins}
 use Rattle.table_lookup.specs.Looked.{Ended, tokensFrom, tokensOf}
 use Rattle.table_settle.specs.Settle.{addLevels, begun}
-use Rattle.table_lookup.proofs.Laws.Lookup.{begins-length}
+use Rattle.table_lookup.proofs.Laws.Begins.{begins-length}
 use Rattle.table_lookup.proofs.Laws.Paths.{empty-same}
 use Rattle.mapping.specs.Results.{mapped, refusedRecord}
 use Rattle.mapping.specs.Carried.{carrierOf, carrierType, carrying, isNone}
@@ -103,7 +103,7 @@ module _ (s ends : List ℕ) (to : ℕ) (h : Ended s ends to) where
 module _ (s ends : List ℕ) (path : List Token) (k : ℕ) (e : k ≡ cond (begins path (tokensFrom s ends 0 8)) (0 + length path) 0) where
   path-most : begins path (tokensFrom s ends 0 8) ≡ true → length path ≤ 8
   unfolding tokensFrom
-  path-most t = begins-length path (tokensFrom s ends 0 8) t
+  path-most t = begins-length sameText path (tokensFrom s ends 0 8) t
 
   pub levels-most : k ≤ 8
   levels-most =

@@ -35,7 +35,8 @@ use Rattle.table.specs.Table.{Row, Table, Token}
 use Rattle.table.specs.Formed as table
 use Rattle.table.specs.Lines.{areFields, isField, isLevel}
 use Rattle.table_lookup.specs.Lookup as lookup
-use Rattle.table_lookup.specs.Lookup.{byPath}
+use Rattle.table_lookup.specs.Lookup.{byPath, extension}
+use Rattle.table_lookup.proofs.Laws.Lookup.{extension-front}
 use Rattle.table_settle.specs.Settle.{Settling, addLevels, begun, settled, settledAs, settledFrom, settling}
 use Rattle.table_settle.proofs.Laws.Settled.{levelled-units, levels-made}
 use Rattle.mapping.specs.Answers.{isGood}
@@ -49,13 +50,13 @@ use Rattle.soundness.specs.Fits.{fits}
 use Rattle.soundness.specs.Folded.{domainRow, foldTokens, tokensOf}
 use Rattle.soundness.specs.Sound.{Sound, backBy, comesBack, textOf}
 use Rattle.soundness.specs.Tokens as tokens
-use Rattle.soundness.specs.Tokens.{Checked, Tok, ext, fitsFrom}
+use Rattle.soundness.specs.Tokens.{Checked, Tok, fitsFrom}
 use Rattle.soundness.proofs.Laws.Comes.{comes-back}
 use Rattle.soundness.proofs.Laws.Fits.{levels-fit}
 use Rattle.soundness.proofs.Laws.Folded.{fields-fold, formed-fold, gateway-fold, look-path-fold, path-fields, plan-from-fold, plan-none-domain, plan-none-from, plan-parts-fold, resolve-fold}
 use Rattle.soundness.proofs.Laws.Look.{Answer, Best, begins-cut, found}
 use Rattle.soundness.proofs.Laws.Reading.{gateway-back, own-back}
-use Rattle.soundness.proofs.Laws.Sound.{Under, ext-front, own, under-levels}
+use Rattle.soundness.proofs.Laws.Sound.{Under, own, under-levels}
 
 -- ---- the tokens that a domain settles are fields
 
@@ -170,7 +171,7 @@ module _ (t : Table) (f : table.Formed t) (r : Record) (h : canonicalRecord r �
     ls = foldTokens (levels (view r))
 
     abbrev x : List Tok
-    x = ext (drop (length key) ls)
+    x = extension (drop (length key) ls)
 
     best : Best (tokensOf t .R) ls (domainRow row)
     best =
@@ -191,7 +192,7 @@ module _ (t : Table) (f : table.Formed t) (r : Record) (h : canonicalRecord r �
     front : key ++ x ≡ take (length (key ++ x)) ls
     front =
         let y : List Tok = drop (length x) (drop (length key) ls) in
-        let whole : (key ++ x) ++ y ≡ ls = append-assoc key x y ∙ ap (λ (s : List Tok). key ++ s) (ext-front (drop (length key) ls)) ∙ begins-cut key ls (best .fits) in
+        let whole : (key ++ x) ++ y ≡ ls = append-assoc key x y ∙ ap (λ (s : List Tok). key ++ s) (extension-front (drop (length key) ls)) ∙ begins-cut key ls (best .fits) in
         sym (ap (take (length (key ++ x))) (sym whole) ∙ take-at (key ++ x) y (length (key ++ x)) refl)
 
     away : isGateway t (sentPlan t r .domain) ≡ false

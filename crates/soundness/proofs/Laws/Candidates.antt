@@ -56,7 +56,8 @@ use Rattle.soundness.proofs.Laws.Came.{came-back}
 use Rattle.soundness.proofs.Laws.Fits.{fits-from-fold}
 use Rattle.soundness.proofs.Laws.Folded.{begins-fold, few-fold, fields-fold, formed-fold, parts-all, path-fields}
 use Rattle.soundness.proofs.Laws.Fresh.{label-fresh, label-part, odd-fresh, odd-part}
-use Rattle.soundness.proofs.Laws.Look.{begins-append}
+use Rattle.table_lookup.proofs.Laws.Begins.{begins-append}
+use Rattle.soundness.proofs.Laws.Look.{equal-equality}
 
 -- ---- the attributes of a candidate
 
@@ -373,7 +374,7 @@ module _ (t : Table) (r : Row) (d : List ℕ) where
   pub second-none : begins (partsOf (r .domain)) (partsOf d) ≡ false → SecondBack t r d
   second-none h z e one eight within =
       true-not-false (begins (partsOf (r .domain)) (partsOf d))
-      (begins-fold (partsOf (r .domain)) (partsOf d) ∙ ap (tokens.begins (domainRow r .val)) e ∙ begins-append (domainRow r .val) z)
+      (begins-fold (partsOf (r .domain)) (partsOf d) ∙ ap (tokens.begins (domainRow r .val)) e ∙ begins-append equal-equality (domainRow r .val) z)
       h
 
   -- one that has no more parts than the row's, and one that has no more bytes

@@ -4,9 +4,10 @@ use mathlib.Core.Path.{_≡_}
 use Prim.Native.Nat.{_≤_}
 use native.Mathlib.Omega.{arith}
 use lib.ListN.{length}
+use Rattle.chars.specs.Case.{sameText}
 use Rattle.table_lookup.specs.Looked.{tokensOf}
 use Rattle.table.specs.Rows.{rowAt}
-use Rattle.table_lookup.proofs.Laws.Lookup.{begins-length}
+use Rattle.table_lookup.proofs.Laws.Begins.{begins-length}
 use Rattle.mapping.proofs.Laws.Route.{length-tokens, routed-under}
 use borrow.Author.Needs.{needs}
 use Rattle.mapping_to_address.proofs.to_address.route_under.Statement.{statement}
@@ -26,7 +27,7 @@ few c =
     let start = c .before .before .before .before in
     let a = start .args in
     let q = tokensOf (a .flat .now) (a .ends .now) in
-    omega (arith, own c, begins-length (rowAt (a .text .now) (a .row) .path) q (start .pre .1 .1), length-tokens (a .flat .now) (a .ends .now))
+    omega (arith, own c, begins-length sameText (rowAt (a .text .now) (a .row) .path) q (start .pre .1 .1), length-tokens (a .flat .now) (a .ends .now))
 
 count-extension-requires : tie.Need-count-extension-requires
 count-extension-requires c κs = (few c, c .before .before .before .before .pre .1 .0)
