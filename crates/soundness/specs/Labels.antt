@@ -8,6 +8,14 @@ use Rattle.soundness.specs.Tokens.{Row, Table, Tok}
 
 -- ---- numbers as labels
 
+-- how many labels the check tries: two more than a table has rows
+abbrev pub labelCount : ℕ
+labelCount = 514
+
+-- what a number of three digits is below
+abbrev pub labelLimit : ℕ
+labelLimit = 1000
+
 -- three decimal digits: a domain part
 unfoldable pub label : ℕ → Tok
 label n = (48 + n / 100 % 10) ∷ (48 + n / 10 % 10) ∷ (48 + n % 10) ∷ []
@@ -39,10 +47,10 @@ unfolding numberOf
 marked k [] ms = ms
 marked k (s ∷ rows) ms = marked k rows (set ms (numberOf (getD (s .key) k [])) true)
 
--- the numbers, of 514, that stand behind a row's path in R rows and behind its domain in D rows
+-- the numbers, of those tried, that stand behind a row's path in R rows and behind its domain in D rows
 unfoldable pub marks : Table → Row → List Bool
 unfolding marked
-marks T r = marked (length (r .val)) (T .D) (marked (length (r .key)) (T .R) (replicate 514 false))
+marks T r = marked (length (r .val)) (T .D) (marked (length (r .key)) (T .R) (replicate labelCount false))
 
 -- the first number that no row uses there
 unfoldable pub fresh : Table → Row → ℕ

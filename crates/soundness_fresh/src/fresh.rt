@@ -1,5 +1,5 @@
 // A label that no row has behind a row's path or behind its domain. Labels are three digits; each row uses up one number at most, so of
-// 514 one is free.
+// two more than there can be rows one is free.
 use chars::case::fold_case;
 use chars::parts::byte_at;
 use mailaddr::domain::part_start;
@@ -19,9 +19,9 @@ ghost use Rattle.mailaddr.specs.Domain.{partsOf};
 ghost use Rattle.table.specs.Load.{Kept};
 ghost use Rattle.table.specs.Rows.{Inside, fieldsAt, rowAt, rowsAt, tableAt};
 ghost use Rattle.soundness.specs.Folded.{domainRow, foldTokens, pathRow, tokensOf};
-ghost use Rattle.soundness.specs.Labels.{firstFree, fresh, marked, numberOf, oddLabel};
+ghost use Rattle.soundness.specs.Labels.{firstFree, fresh, labelLimit, marked, numberOf, oddLabel};
 
-// How many numbers there are.
+// How many numbers are tried.
 pub const LABELS: usize = 514;
 
 fn wide(b: u8) -> usize
@@ -183,7 +183,7 @@ pub fn free_number(
 
 // The label of a number, with `+` behind: the first three bytes are a domain part, all four are none.
 pub fn odd_label(n: usize) -> [u8; 4]
-    requires { ⌜ n < 1000 ⌝ }
+    requires { ⌜ n < labelLimit ⌝ }
     ensures { λ r. ⌜ r ≡ oddLabel n ⌝ }
 {
     [

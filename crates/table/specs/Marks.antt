@@ -11,13 +11,16 @@ use Rattle.table.specs.Rows.{placesAt, putAt}
 use Rattle.table.specs.declared.line as line
 use Rattle.table.specs.declared.rows.Key.{Key}
 
--- what every mark is below
+-- what a mark is multiplied by with each byte, and what it stays below
+abbrev pub markFactor : ℕ
+markFactor = 16777619
+
 abbrev pub markLimit : ℕ
 markLimit = 4294967296
 
 -- the mark of the bytes that made the mark h, with one more behind them, and with more
 abbrev pub markWith : ℕ → ℕ → ℕ
-markWith h b = (h * 16777619 + b) % markLimit
+markWith h b = (h * markFactor + b) % markLimit
 
 unfoldable pub markFrom : ℕ → List ℕ → ℕ
 markFrom h [] = h

@@ -22,7 +22,7 @@ use Rattle.table_settle.proofs.Laws.Settled.{levels-made}
 use Rattle.mapping.specs.ToAddress.{isCarrier}
 use Rattle.soundness.specs.Check.{FirstBack, candidateOf}
 use Rattle.soundness.specs.Folded.{domainRow, tokensOf}
-use Rattle.soundness.specs.Labels.{fresh, label, oddLabel}
+use Rattle.soundness.specs.Labels.{fresh, label, labelLimit, oddLabel}
 use Rattle.soundness.specs.Sound.{comesBack}
 use Rattle.soundness.specs.Tokens.{Back, Tried, pad}
 use Rattle.soundness.proofs.Laws.Candidates.{IsCandidate, bare-back, bare-candidate, plain-back, plain-candidate, two-back, two-candidate}
@@ -58,7 +58,7 @@ module _ (t : Table) (f : Formed t) (r : Row) (m : List·Memᴰ r (t .toDomain))
   path-added = levels-made (r .path) (row-fields r row) (leb-true (length (r .path)) 8 (row-path r row .1)) .0
 
   -- its fresh number has three digits
-  pub fresh-small : (n : ℕ) → n ≡ fresh (tokensOf t) (domainRow r) → n < 1000
+  pub fresh-small : (n : ℕ) → n ≡ fresh (tokensOf t) (domainRow r) → n < labelLimit
   fresh-small n e = omega (arith, fresh-free (tokensOf t) (domainRow r) (few-fold t f) .0)
 
   -- the levels of its path

@@ -1,4 +1,4 @@
--- Fresh tokens: a label tells its number, with three digits it is a domain part and with a `+` behind it is none; and of 514 numbers the
+-- Fresh tokens: a label tells its number, with three digits it is a domain part and with a `+` behind it is none; and of labelCount numbers the
 -- rows of a table, each of which marks one at most, leave one free, whose labels are fresh.
 -- Assumes nothing.
 use mathlib.Core.Path.{_≡_, refl, sym, ap, subst, _∙_}
@@ -17,7 +17,8 @@ use Rattle.chars.specs.Domain.{isDomainPart}
 use Rattle.chars.proofs.Laws.Lists.{and-both, by-test, true-not-false}
 use Rattle.chars.proofs.Laws.Class.{on-range}
 use Rattle.chars.proofs.Laws.Domain.{domain-part-label}
-use Rattle.soundness.specs.Labels.{count, firstFree, fresh, label, marked, marks, numberOf, oddLabel}
+use Rattle.table.specs.Lines.{mostRows}
+use Rattle.soundness.specs.Labels.{count, firstFree, fresh, label, labelCount, labelLimit, marked, marks, numberOf, oddLabel}
 use Rattle.soundness.specs.Tokens.{Fresh, Row, Supply, Table, Tok, fitsFrom}
 
 -- ---- labels
@@ -42,22 +43,22 @@ odd-part n =
     (λ e. true-not-false true refl (sym (domain-part-label (oddLabel n) e) ∙ rw (and-false (isLabelChar (48 + n % 10)), and-false (isLabelChar (48 + n / 10 % 10)), and-false (isLabelChar (48 + n / 100 % 10)))))
     (λ e. e)
 
-digits : (n : ℕ) → n < 1000 → 100 * (48 + n / 100 % 10 - 48) + 10 * (48 + n / 10 % 10 - 48) + (48 + n % 10 - 48) ≡ n
+digits : (n : ℕ) → n < labelLimit → 100 * (48 + n / 100 % 10 - 48) + 10 * (48 + n / 10 % 10 - 48) + (48 + n % 10 - 48) ≡ n
 digits n h = omega arith
 
-pub number-label : (n : ℕ) → n < 1000 → numberOf (label n) ≡ n
+pub number-label : (n : ℕ) → n < labelLimit → numberOf (label n) ≡ n
 unfolding numberOf label
 number-label n h = digits n h
 
-pub number-odd : (n : ℕ) → n < 1000 → numberOf (oddLabel n) ≡ n
+pub number-odd : (n : ℕ) → n < labelLimit → numberOf (oddLabel n) ≡ n
 unfolding numberOf label oddLabel
 number-odd n h = digits n h
 
 -- different numbers have different labels
-pub label-injective : (m n : ℕ) → m < 1000 → n < 1000 → label m ≡ label n → m ≡ n
+pub label-injective : (m n : ℕ) → m < labelLimit → n < labelLimit → label m ≡ label n → m ≡ n
 label-injective m n h k e = sym (number-label m h) ∙ ap numberOf e ∙ number-label n k
 
-pub odd-injective : (m n : ℕ) → m < 1000 → n < 1000 → oddLabel m ≡ oddLabel n → m ≡ n
+pub odd-injective : (m n : ℕ) → m < labelLimit → n < labelLimit → oddLabel m ≡ oddLabel n → m ≡ n
 odd-injective m n h k e = sym (number-odd m h) ∙ ap numberOf e ∙ number-odd n k
 
 -- ---- marks
@@ -114,41 +115,41 @@ unmarked k (x ∷ rows) ms i l h =
 -- ---- fresh numbers
 
 module _ (T : Table) (r : Row) where
-  size : length (marks T r) ≡ 514
+  size : length (marks T r) ≡ labelCount
   unfolding marks
   size =
-      length-marked (length (r .val)) (T .D) (marked (length (r .key)) (T .R) (replicate 514 false))
-      ∙ length-marked (length (r .key)) (T .R) (replicate 514 false)
-      ∙ length-replicate 514 false
+      length-marked (length (r .val)) (T .D) (marked (length (r .key)) (T .R) (replicate labelCount false))
+      ∙ length-marked (length (r .key)) (T .R) (replicate labelCount false)
+      ∙ length-replicate labelCount false
 
   few : count (marks T r) ≤ length (T .D) + length (T .R)
   unfolding marks
   few =
-      let ms : List Bool = replicate 514 false in
+      let ms : List Bool = replicate labelCount false in
       let rs : List Bool = marked (length (r .key)) (T .R) ms in
-      omega (arith, count-marked (length (r .val)) (T .D) rs, count-marked (length (r .key)) (T .R) ms, count-unmarked 514)
+      omega (arith, count-marked (length (r .val)) (T .D) rs, count-marked (length (r .key)) (T .R) ms, count-unmarked labelCount)
 
-  -- of 514 numbers one is free
-  pub fresh-free : length (T .D) + length (T .R) ≤ 512 → (fresh T r < 514) × (getD (marks T r) (fresh T r) true ≡ false)
+  -- of labelCount numbers one is free
+  pub fresh-free : length (T .D) + length (T .R) ≤ mostRows → (fresh T r < labelCount) × (getD (marks T r) (fresh T r) true ≡ false)
   unfolding fresh
   fresh-free h =
       let w = free-place (marks T r) (omega (arith, size, few)) in
       (omega (arith, w .0, size), w .1)
 
   -- a token that tells a number that is not marked is fresh
-  fresh-token : (f : Tok) → (f ≡ [] → ⊥) → numberOf f < 514 → getD (marks T r) (numberOf f) true ≡ false → Fresh T r f
+  fresh-token : (f : Tok) → (f ≡ [] → ⊥) → numberOf f < labelCount → getD (marks T r) (numberOf f) true ≡ false → Fresh T r f
   unfolding marks
   fresh-token f there l h =
-      let ms : List Bool = replicate 514 false in
+      let ms : List Bool = replicate labelCount false in
       let rs : List Bool = marked (length (r .key)) (T .R) ms in
-      let e = length-replicate 514 false in
+      let e = length-replicate labelCount false in
       let d = unmarked (length (r .val)) (T .D) rs (numberOf f) (omega (arith, e, length-marked (length (r .key)) (T .R) ms)) h in
       let p = unmarked (length (r .key)) (T .R) ms (numberOf f) (omega (arith, e)) (d .0) in
       record { there = there; newR = λ s m k q. p .1 s m (ap numberOf q); newD = λ s m k q. d .1 s m (ap numberOf q) }
 
-  module _ (h : length (T .D) + length (T .R) ≤ 512) where
-    free-as : (n : ℕ) → n ≡ fresh T r → (n < 514) × (getD (marks T r) n true ≡ false)
-    free-as n e = subst (λ (k : ℕ). (k < 514) × (getD (marks T r) k true ≡ false)) (sym e) (fresh-free h)
+  module _ (h : length (T .D) + length (T .R) ≤ mostRows) where
+    free-as : (n : ℕ) → n ≡ fresh T r → (n < labelCount) × (getD (marks T r) n true ≡ false)
+    free-as n e = subst (λ (k : ℕ). (k < labelCount) × (getD (marks T r) k true ≡ false)) (sym e) (fresh-free h)
 
     pub label-fresh : Fresh T r (label (fresh T r))
     unfolding label
@@ -163,9 +164,9 @@ module _ (T : Table) (r : Row) where
         fresh-token (oddLabel (fresh T r)) cons≢nil (w .0) (w .1)
 
 -- a table of 512 rows or fewer has fresh tokens, where the labels are within bounds
-pub supply : (fits : ℕ → Tok → Bool) (T : Table) → length (T .D) + length (T .R) ≤ 512
+pub supply : (fits : ℕ → Tok → Bool) (T : Table) → length (T .D) + length (T .R) ≤ mostRows
     → ((k : ℕ) → fits k [] ≡ true) → ((r : Row) → List·Memᴰ r (T .R) → fitsFrom fits 0 (r .key) ≡ true)
-    → ((n : ℕ) → n < 514 → fits 2 (oddLabel n) ≡ true) → ((n : ℕ) → n < 514 → fits 3 (label n) ≡ true) → Supply fits T
+    → ((n : ℕ) → n < labelCount → fits 2 (oddLabel n) ≡ true) → ((n : ℕ) → n < labelCount → fits 3 (label n) ≡ true) → Supply fits T
 supply fits T h absent paths odd part =
     record {
       absent = absent;

@@ -18,7 +18,7 @@ use Rattle.table.specs.Table as table
 use Rattle.table.specs.declared.line.Row.{Row as Places}
 use Rattle.table.specs.declared.load.Loaded.{Loaded}
 use Rattle.soundness.specs.Folded.{domainRow, foldTokens, pathRow, tokensOf}
-use Rattle.soundness.specs.Labels.{firstFree, fresh, marked, marks, numberOf}
+use Rattle.soundness.specs.Labels.{firstFree, fresh, labelCount, marked, marks, numberOf}
 use Rattle.soundness.specs.Tokens.{Row, Tok}
 
 -- ---- folded
@@ -81,13 +81,13 @@ module _ (ms : List Bool) (i : ℕ) where
 
 -- with all rows marked, the first free place is the row's fresh number
 pub free-fresh : (s ds rs : List ℕ) (t : Loaded) (p : Places) (levels parts : ℕ) → levels ≡ length (rowAt s p .path) → parts ≡ length (partsOf (rowAt s p .domain))
-    → firstFree (marked parts (map pathRow (rowsAt s ds (t .«to_path»))) (marked levels (map domainRow (rowsAt s rs (t .«to_domain»))) (replicate 514 false)))
+    → firstFree (marked parts (map pathRow (rowsAt s ds (t .«to_path»))) (marked levels (map domainRow (rowsAt s rs (t .«to_domain»))) (replicate labelCount false)))
     ≡ fresh (tokensOf (tableAt s ds rs t)) (domainRow (rowAt s p))
 unfolding fresh marks tableAt
 free-fresh s ds rs t p levels parts e f =
     let r = rowAt s p in
     let D : List Row = map pathRow (rowsAt s ds (t .«to_path»)) in
     let R : List Row = map domainRow (rowsAt s rs (t .«to_domain»)) in
-    ap₂ (λ (m n : ℕ). firstFree (marked n D (marked m R (replicate 514 false))))
+    ap₂ (λ (m n : ℕ). firstFree (marked n D (marked m R (replicate labelCount false))))
     (e ∙ sym (length-map (r .path) foldText))
     (f ∙ sym (length-map (partsOf (r .domain)) foldText))
