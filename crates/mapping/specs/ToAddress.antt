@@ -18,7 +18,7 @@ use Rattle.mailaddr.specs.Code.{decoded}
 use Rattle.mailaddr.specs.Domain.{inFront}
 use Rattle.mailaddr.specs.Shape.{addressText, shapeOf}
 use Rattle.table.specs.Table.{Row, Table, Token}
-use Rattle.table.specs.Lines.{Loaded, loadedFrom, malformed, wellFormed}
+use Rattle.table.specs.Lines.{TableOutcome, loadedFrom, malformed, wellFormed}
 use Rattle.table_lookup.specs.Begins.{beginsBy, lookBy}
 use Rattle.table_lookup.specs.Lookup.{begins, byPath, extension, look}
 use Rattle.mapping.specs.Carried.{carrierType, isNone}
@@ -117,7 +117,7 @@ unfolding canonicalRecord placedIn addressOf view refusedAddress
 toAddress t r old = cond (canonicalRecord r) (placedIn old (addressOf t (view r))) (refusedAddress 4 old)
 
 -- the same under what a table text comes to
-unfoldable pub toAddressBy : Loaded → Record → List ℕ → AddressResult
+unfoldable pub toAddressBy : TableOutcome → Record → List ℕ → AddressResult
 unfolding malformedAddress toAddress
 toAddressBy (malformed l) r old = malformedAddress l old
 toAddressBy (wellFormed t) r old = toAddress t r old

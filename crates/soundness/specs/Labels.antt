@@ -26,8 +26,8 @@ unfolding label
 oddLabel n = label n ++ 43 ∷ []
 
 -- the number that the first three bytes tell; a byte that is not there, or is below the digits, counts as the digit 0
-unfoldable pub numberOf : Tok → ℕ
-numberOf t = 100 * (getD t 0 0 - 48) + 10 * (getD t 1 0 - 48) + (getD t 2 0 - 48)
+unfoldable pub labelNumber : Tok → ℕ
+labelNumber t = 100 * (getD t 0 0 - 48) + 10 * (getD t 1 0 - 48) + (getD t 2 0 - 48)
 
 -- ---- marks
 
@@ -43,9 +43,9 @@ count (m ∷ ms) = cond m (suc (count ms)) (count ms)
 
 -- with the number of the token that each row has at the place k of its key marked too, whatever stands before it
 unfoldable pub marked : ℕ → List Row → List Bool → List Bool
-unfolding numberOf
+unfolding labelNumber
 marked k [] ms = ms
-marked k (s ∷ rows) ms = marked k rows (set ms (numberOf (getD (s .key) k [])) true)
+marked k (s ∷ rows) ms = marked k rows (set ms (labelNumber (getD (s .key) k [])) true)
 
 -- the numbers, of those tried, that stand behind a row's path in R rows and behind its domain in D rows
 unfoldable pub marks : Table → Row → List Bool

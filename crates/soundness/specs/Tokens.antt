@@ -104,7 +104,7 @@ pub record IsPath (p : List Tok) : Type 0 where
 
 -- document 01, "The table text": "Two D rows with one domain, or two R rows with one path .. make the later line bad"; paths; domain parts.
 -- Nothing is asked of the gateway's domain, nor of the D rows' domains.
-pub record Formed (T : Table) : Type 0 where
+pub record WellKept (T : Table) : Type 0 where
   pub oneD : (r s : Row) → List·Memᴰ r (T .D) → List·Memᴰ s (T .D) → r .key ≡ s .key → r ≡ s
   pub oneR : (r s : Row) → List·Memᴰ r (T .R) → List·Memᴰ s (T .R) → r .key ≡ s .key → r ≡ s
   pub pathD : (r : Row) → List·Memᴰ r (T .D) → IsPath (r .val)

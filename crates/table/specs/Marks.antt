@@ -46,6 +46,6 @@ unfolding putAt
 putMarked ns i p mark = set (putAt ns i p) (marksAt + i) mark
 
 -- Putting a row behind the first n, unless one of them has its key: whether it was new, and the list if it was.
-pub record Placed (k : Key) (s ns : List ℕ) (n : ℕ) (p : line.Row.Row) (new : Bool) (ms : List ℕ) : Type 0 where
+pub record PutIfNew (k : Key) (s ns : List ℕ) (n : ℕ) (p : line.Row.Row) (new : Bool) (ms : List ℕ) : Type 0 where
   pub answers : new ≡ isNewKey k s ns n p
   pub rows : new ≡ true → ms ≡ putMarked ns n p (markOf (keyText k s p))

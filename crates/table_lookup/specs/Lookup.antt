@@ -16,17 +16,17 @@ abbrev pub begins : List Token → List Token → Bool
 begins ps qs = beginsBy sameText ps qs
 
 -- A row by its key: the domain's parts from the right, or the path.
-abbrev pub Key : Type 0
-Key = Row → List Token
+abbrev pub RowKey : Type 0
+RowKey = Row → List Token
 
-abbrev pub byDomain : Key
+abbrev pub byDomain : RowKey
 byDomain r = partsOf (r .domain)
 
-abbrev pub byPath : Key
+abbrev pub byPath : RowKey
 byPath r = r .path
 
 -- the row with the longest key that begins the query
-abbrev pub look : Key → List Row → List Token → Option Row
+abbrev pub look : RowKey → List Row → List Token → Option Row
 look key rows q = lookBy sameText key rows q
 
 -- "Otherwise find the D row with the longest domain that is a tail of it by whole parts": the levels that a domain settles

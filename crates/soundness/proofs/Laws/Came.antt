@@ -47,7 +47,7 @@ use Rattle.mapping.proofs.Laws.CarriedBack.{carrier-is}
 use Rattle.mapping.proofs.Laws.Route.{address-planned}
 use Rattle.mapping.proofs.Laws.Sent.{plan-domain, sent-record, sent-shaped, sentAddress, sentReading, sentText}
 use Rattle.mapping.proofs.Laws.Whole.{by-domain, good-read}
-use Rattle.soundness.specs.Folded.{domainRow, foldTokens, tokensOf}
+use Rattle.soundness.specs.Folded.{domainRow, foldTokens, tokenTable}
 use Rattle.soundness.specs.Sound.{backBy, comesBack, textOf}
 use Rattle.soundness.specs.Tokens.{Agree, Back, BackBy, Comes}
 use Rattle.soundness.specs.Tokens as tokens
@@ -138,7 +138,7 @@ module _ (t : Table) (f : Formed t) (d : List ℕ) (i : isDomain d ≡ true) whe
 
 module _ (t : Table) (f : Formed t) (r : Record) (h : canonicalRecord r ≡ true) (l : length (view r .single) ≡ 8) (n : isCarrier t (view r) ≡ false) (c : comesBack t r ≡ true) where
   abbrev T : tokens.Table
-  T = tokensOf t
+  T = tokenTable t
 
   abbrev L : List Token
   L = levels (view r)
@@ -203,5 +203,5 @@ module _ (t : Table) (f : Formed t) (r : Record) (h : canonicalRecord r ≡ true
   by-look (some b) e = comes b e
 
   -- what the check learns of a candidate
-  pub came-back : Back (tokensOf t) (foldTokens (levels (view r)))
+  pub came-back : Back (tokenTable t) (foldTokens (levels (view r)))
   came-back = subst (BackBy T (foldTokens L)) (look-path-fold (t .toDomain) L) (by-look (look byPath (t .toDomain) L) refl)

@@ -30,7 +30,7 @@ use Rattle.table.specs.Formed as table
 use Rattle.table.specs.Formed.{distinct}
 use Rattle.table_lookup.specs.Lookup as lookup
 use Rattle.table_lookup.specs.Begins.{beginsBy, betterBy, lookBy, resolveBy, settledBy}
-use Rattle.table_lookup.specs.Lookup.{Key, byDomain, byPath, extension}
+use Rattle.table_lookup.specs.Lookup.{RowKey, byDomain, byPath, extension}
 use Rattle.table.proofs.Laws.Rows.{agree-fold}
 use Rattle.table_lookup.proofs.Laws.Lookup.{extension-parts}
 use Rattle.table_settle.proofs.Laws.Settled.{field-there}
@@ -39,7 +39,7 @@ use Rattle.mapping.specs.Carried.{isGateway}
 use Rattle.mapping.specs.ToAddress.{extended, plan, planBy, planUnder}
 use Rattle.soundness.specs.Tokens as tokens
 use Rattle.soundness.specs.Tokens.{IsPath, Tok, keyOf, valOf}
-use Rattle.soundness.specs.Folded.{domainRow, foldTokens, pathRow, tokensOf}
+use Rattle.soundness.specs.Folded.{domainRow, foldTokens, pathRow, tokenTable}
 
 -- ---- looking up
 
@@ -50,7 +50,7 @@ begins-fold (a ∷ p) [] = refl
 begins-fold (a ∷ p) (b ∷ q) = rw (same-folded a b, begins-fold p q)
 
 -- rows by their keys, each with what it tells
-module _ (key : Key) (val : Row → List Tok) where
+module _ (key : RowKey) (val : Row → List Tok) where
   abbrev keyed : Row → tokens.Row
   keyed r = record { key = foldTokens (key r); val = val r }
 
@@ -87,7 +87,7 @@ settled-fold q (some r) =
     (map-append foldText (r .path) (drop (length (partsOf (r .domain))) q)
     ∙ ap (λ (ts : List Tok). foldTokens (r .path) ++ ts) (behind-fold (partsOf (r .domain)) q))
 
-pub resolve-fold : (t : Table) (d : List ℕ) → Option·map foldTokens (lookup.resolve (t .toPath) d) ≡ tokens.resolve (tokensOf t) (foldTokens (partsOf d))
+pub resolve-fold : (t : Table) (d : List ℕ) → Option·map foldTokens (lookup.resolve (t .toPath) d) ≡ tokens.resolve (tokenTable t) (foldTokens (partsOf d))
 unfolding resolveBy
 resolve-fold t d =
     settled-fold (partsOf d) (lookup.look byDomain (t .toPath) (partsOf d))
@@ -154,7 +154,7 @@ module _ (t : Table) (ls : List Token) where
 parts-same : (a b : List ℕ) → foldTokens (partsOf a) ≡ foldTokens (partsOf b) → sameText a b ≡ true
 parts-same a b e = same-of a b (sym (domain-parts (foldText a)) ∙ ap domainOf (parts-fold a ∙ e ∙ sym (parts-fold b)) ∙ domain-parts (foldText b))
 
-pub gateway-fold : (t : Table) (d : List ℕ) → (isGateway t d ≡ true) ↔ (foldTokens (partsOf d) ≡ tokensOf t .g)
+pub gateway-fold : (t : Table) (d : List ℕ) → (isGateway t d ≡ true) ↔ (foldTokens (partsOf d) ≡ tokenTable t .g)
 unfolding isGateway
 gateway-fold t d = (λ h. fold-parts (t .gateway .domain) d h, λ e. parts-same (t .gateway .domain) d (sym e))
 
@@ -301,7 +301,7 @@ module _ (r : Row) (h : isRow longestRowDomain r ≡ true) where
 -- ---- the whole
 
 module _ (t : Table) (f : table.Formed t) where
-  pub formed-fold : tokens.Formed (tokensOf t)
+  pub formed-fold : tokens.WellKept (tokenTable t)
   formed-fold =
       record {
         oneD = one-fold pathRow (t .toPath) sameDomain domain-swap domain-close (f .eachDomain);
@@ -312,11 +312,11 @@ module _ (t : Table) (f : table.Formed t) where
       }
 
   -- the rows are as few as before
-  pub few-fold : length (tokensOf t .D) + length (tokensOf t .R) ≤ mostRows
+  pub few-fold : length (tokenTable t .D) + length (tokenTable t .R) ≤ mostRows
   few-fold = omega (arith, f .few, length-map (t .toPath) pathRow, length-map (t .toDomain) domainRow)
 
   -- the tokens of an R row's path are fields still
-  pub path-fields : (r : tokens.Row) → List·Memᴰ r (tokensOf t .R) → areFields 0 (r .key) ≡ true
+  pub path-fields : (r : tokens.Row) → List·Memᴰ r (tokenTable t .R) → areFields 0 (r .key) ≡ true
   path-fields = each-fold domainRow (t .toDomain) (λ r. areFields 0 (r .key) ≡ true) (f .domains) (λ r h. fields-fold 0 (r .path) ∙ row-fields r h)
 
   -- the path of a D row has fields, eight at most: what adding levels to a record asks of them

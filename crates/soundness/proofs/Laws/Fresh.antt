@@ -18,7 +18,7 @@ use Rattle.chars.proofs.Laws.Lists.{and-both, by-test, true-not-false}
 use Rattle.chars.proofs.Laws.Class.{on-range}
 use Rattle.chars.proofs.Laws.Domain.{domain-part-label}
 use Rattle.table.specs.Lines.{mostRows}
-use Rattle.soundness.specs.Labels.{count, firstFree, fresh, label, labelCount, labelLimit, marked, marks, numberOf, oddLabel}
+use Rattle.soundness.specs.Labels.{count, firstFree, fresh, label, labelCount, labelLimit, marked, marks, labelNumber, oddLabel}
 use Rattle.soundness.specs.Tokens.{Fresh, Row, Supply, Table, Tok, fitsFrom}
 
 -- ---- labels
@@ -46,20 +46,20 @@ odd-part n =
 digits : (n : ℕ) → n < labelLimit → 100 * (48 + n / 100 % 10 - 48) + 10 * (48 + n / 10 % 10 - 48) + (48 + n % 10 - 48) ≡ n
 digits n h = omega arith
 
-pub number-label : (n : ℕ) → n < labelLimit → numberOf (label n) ≡ n
-unfolding numberOf label
+pub number-label : (n : ℕ) → n < labelLimit → labelNumber (label n) ≡ n
+unfolding labelNumber label
 number-label n h = digits n h
 
-pub number-odd : (n : ℕ) → n < labelLimit → numberOf (oddLabel n) ≡ n
-unfolding numberOf label oddLabel
+pub number-odd : (n : ℕ) → n < labelLimit → labelNumber (oddLabel n) ≡ n
+unfolding labelNumber label oddLabel
 number-odd n h = digits n h
 
 -- different numbers have different labels
 pub label-injective : (m n : ℕ) → m < labelLimit → n < labelLimit → label m ≡ label n → m ≡ n
-label-injective m n h k e = sym (number-label m h) ∙ ap numberOf e ∙ number-label n k
+label-injective m n h k e = sym (number-label m h) ∙ ap labelNumber e ∙ number-label n k
 
 pub odd-injective : (m n : ℕ) → m < labelLimit → n < labelLimit → oddLabel m ≡ oddLabel n → m ≡ n
-odd-injective m n h k e = sym (number-odd m h) ∙ ap numberOf e ∙ number-odd n k
+odd-injective m n h k e = sym (number-odd m h) ∙ ap labelNumber e ∙ number-odd n k
 
 -- ---- marks
 
@@ -88,7 +88,7 @@ length-marked : (k : ℕ) (rows : List Row) (ms : List Bool) → length (marked 
 unfolding marked
 length-marked k [] ms = refl
 length-marked k (s ∷ rows) ms =
-    let i : ℕ = numberOf (getD (s .key) k []) in
+    let i : ℕ = labelNumber (getD (s .key) k []) in
     length-marked k rows (set ms i true) ∙ length-set ms i true
 
 -- each row marks one place at most
@@ -96,20 +96,20 @@ count-marked : (k : ℕ) (rows : List Row) (ms : List Bool) → count (marked k 
 unfolding marked
 count-marked k [] ms = omega arith
 count-marked k (s ∷ rows) ms =
-    let i : ℕ = numberOf (getD (s .key) k []) in
+    let i : ℕ = labelNumber (getD (s .key) k []) in
     omega (arith, count-marked k rows (set ms i true), count-set ms i)
 
 -- a place that is not marked was not marked before, and no row has its number
 unmarked : (k : ℕ) (rows : List Row) (ms : List Bool) (i : ℕ) → i < length ms → getD (marked k rows ms) i true ≡ false
-    → (getD ms i true ≡ false) × ((s : Row) → List·Memᴰ s rows → numberOf (getD (s .key) k []) ≡ i → ⊥)
+    → (getD ms i true ≡ false) × ((s : Row) → List·Memᴰ s rows → labelNumber (getD (s .key) k []) ≡ i → ⊥)
 unfolding marked
 unmarked k [] ms i l h = (h, λ s m. absurd (List·Memᴰ·not-nil m))
 unmarked k (x ∷ rows) ms i l h =
-    let j : ℕ = numberOf (getD (x .key) k []) in
+    let j : ℕ = labelNumber (getD (x .key) k []) in
     let w = unmarked k rows (set ms j true) i (omega (arith, length-set ms j true)) h in
     let other : j ≡ i → ⊥ = λ e. true-not-false (getD (set ms j true) i true) (ap (λ (n : ℕ). getD (set ms n true) i true) e ∙ getD-set-same ms i true true l) (w .0) in (
       sym (getD-set-other ms j i true true (λ e. other (sym e))) ∙ w .0,
-      λ s m. ⊎-elim (λ p e. other (ap (λ (t : Row). numberOf (getD (t .key) k [])) (sym p) ∙ e)) (λ t. w .1 s t) (List·Memᴰ·cases-cons m),
+      λ s m. ⊎-elim (λ p e. other (ap (λ (t : Row). labelNumber (getD (t .key) k [])) (sym p) ∙ e)) (λ t. w .1 s t) (List·Memᴰ·cases-cons m),
     )
 
 -- ---- fresh numbers
@@ -137,15 +137,15 @@ module _ (T : Table) (r : Row) where
       (omega (arith, w .0, size), w .1)
 
   -- a token that tells a number that is not marked is fresh
-  fresh-token : (f : Tok) → (f ≡ [] → ⊥) → numberOf f < labelCount → getD (marks T r) (numberOf f) true ≡ false → Fresh T r f
+  fresh-token : (f : Tok) → (f ≡ [] → ⊥) → labelNumber f < labelCount → getD (marks T r) (labelNumber f) true ≡ false → Fresh T r f
   unfolding marks
   fresh-token f there l h =
       let ms : List Bool = replicate labelCount false in
       let rs : List Bool = marked (length (r .key)) (T .R) ms in
       let e = length-replicate labelCount false in
-      let d = unmarked (length (r .val)) (T .D) rs (numberOf f) (omega (arith, e, length-marked (length (r .key)) (T .R) ms)) h in
-      let p = unmarked (length (r .key)) (T .R) ms (numberOf f) (omega (arith, e)) (d .0) in
-      record { there = there; newR = λ s m k q. p .1 s m (ap numberOf q); newD = λ s m k q. d .1 s m (ap numberOf q) }
+      let d = unmarked (length (r .val)) (T .D) rs (labelNumber f) (omega (arith, e, length-marked (length (r .key)) (T .R) ms)) h in
+      let p = unmarked (length (r .key)) (T .R) ms (labelNumber f) (omega (arith, e)) (d .0) in
+      record { there = there; newR = λ s m k q. p .1 s m (ap labelNumber q); newD = λ s m k q. d .1 s m (ap labelNumber q) }
 
   module _ (h : length (T .D) + length (T .R) ≤ mostRows) where
     free-as : (n : ℕ) → n ≡ fresh T r → (n < labelCount) × (getD (marks T r) n true ≡ false)
@@ -154,13 +154,13 @@ module _ (T : Table) (r : Row) where
     pub label-fresh : Fresh T r (label (fresh T r))
     unfolding label
     label-fresh =
-        let w = free-as (numberOf (label (fresh T r))) (number-label (fresh T r) (omega (arith, fresh-free h .0))) in
+        let w = free-as (labelNumber (label (fresh T r))) (number-label (fresh T r) (omega (arith, fresh-free h .0))) in
         fresh-token (label (fresh T r)) cons≢nil (w .0) (w .1)
 
     pub odd-fresh : Fresh T r (oddLabel (fresh T r))
     unfolding label oddLabel
     odd-fresh =
-        let w = free-as (numberOf (oddLabel (fresh T r))) (number-odd (fresh T r) (omega (arith, fresh-free h .0))) in
+        let w = free-as (labelNumber (oddLabel (fresh T r))) (number-odd (fresh T r) (omega (arith, fresh-free h .0))) in
         fresh-token (oddLabel (fresh T r)) cons≢nil (w .0) (w .1)
 
 -- a table of 512 rows or fewer has fresh tokens, where the labels are within bounds

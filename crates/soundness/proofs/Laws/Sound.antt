@@ -20,7 +20,7 @@ use Rattle.chars.specs.Domain.{isDomainPart}
 use Rattle.chars.proofs.Laws.Lists.{all-append, all-at, all-drop, all-weaken, and-both, and-left, and-right, by-test, true-not-false}
 use Rattle.chars.proofs.Laws.Seq.{absent-is, some-length}
 use Rattle.chars.proofs.Laws.Domain.{domain-empty, domain-part-length}
-use Rattle.soundness.specs.Tokens.{Agree, Back, BackBy, Checked, Comes, Formed, Fresh, Levels, Row, Supply, Table, Target, Tok, Tried}
+use Rattle.soundness.specs.Tokens.{Agree, Back, BackBy, Checked, Comes, WellKept, Fresh, Levels, Row, Supply, Table, Target, Tok, Tried}
 use Rattle.soundness.specs.Tokens.{begins, fitsFrom, keyOf, look, pad, resolve, valOf}
 use Rattle.soundness.proofs.Laws.Agree.{agree-own, exact, exact-two, full-append, there-at}
 use Rattle.table_lookup.specs.Lookup.{extension}
@@ -96,7 +96,7 @@ module _ (T : Table) where
 
 -- ---- a formed table
 
-module _ (T : Table) (formed : Formed T) where
+module _ (T : Table) (formed : WellKept T) where
   -- what a domain of no empty part resolves to
   settled-full : (q S : List Tok) → all nonEmpty q ≡ true → resolve T q ≡ some S → (2 ≤ length S) × (all nonEmpty (drop 3 S) ≡ true)
   settled-full q S h e =
@@ -171,7 +171,7 @@ abbrev pub Owned : (ℕ → Tok → Bool) → Table → Type 0
 Owned fits T = (r : Row) (x : List Tok) → Under fits T r x → (r .val ++ x ≡ T .g → ⊥) × (resolve T (r .val ++ x) ≡ some (r .key ++ x))
 
 -- then all levels come back
-pub owned-back : (fits : ℕ → Tok → Bool) (T : Table) → Formed T → Owned fits T → (L : List Tok) → Levels fits L → Back T L
+pub owned-back : (fits : ℕ → Tok → Bool) (T : Table) → WellKept T → Owned fits T → (L : List Tok) → Levels fits L → Back T L
 owned-back fits T formed owned L levels = case (look (T .R) L) (found (T .R) L)
   where
     case : (o : Option Row) → Answer (T .R) L o → BackBy T L o
@@ -206,7 +206,7 @@ alone T r L c = (
 abbrev pub Good : Table → Row → Type 0
 Good T r = (r .val ≡ T .g → ⊥) × (resolve T (r .val) ≡ some (r .key))
 
-module _ (fits : ℕ → Tok → Bool) (T : Table) (formed : Formed T) (checked : Checked fits T) where
+module _ (fits : ℕ → Tok → Bool) (T : Table) (formed : WellKept T) (checked : Checked fits T) where
   module _ (r : Row) (m : List·Memᴰ r (T .R)) where
     plain-comes : 3 ≤ length (r .key) → Comes T r [] (pad (r .key))
     unfolding pad all
@@ -358,7 +358,7 @@ module _ (fits : ℕ → Tok → Bool) (T : Table) (formed : Formed T) (checked 
 
 -- ---- the other way: the candidates are levels, so they come back where all do
 
-pub checked-back : (fits : ℕ → Tok → Bool) (T : Table) → Formed T → ((L : List Tok) → Levels fits L → Back T L) → Supply fits T → Checked fits T
+pub checked-back : (fits : ℕ → Tok → Bool) (T : Table) → WellKept T → ((L : List Tok) → Levels fits L → Back T L) → Supply fits T → Checked fits T
 unfolding fitsFrom
 checked-back fits T formed back supply =
     record {
@@ -381,5 +381,5 @@ checked-back fits T formed back supply =
     with-one r m f h l = behind-path r m (f ∷ []) (omega arith) (and-both h refl)
 
 -- A table is accepted exactly when its rows' domains are owned so: what the check finds out, without its candidates.
-pub accepted-exactly : (fits : ℕ → Tok → Bool) (T : Table) → Formed T → Supply fits T → (Checked fits T → Owned fits T) × (Owned fits T → Checked fits T)
+pub accepted-exactly : (fits : ℕ → Tok → Bool) (T : Table) → WellKept T → Supply fits T → (Checked fits T → Owned fits T) × (Owned fits T → Checked fits T)
 accepted-exactly fits T formed supply = (λ c. own fits T formed c, λ o. checked-back fits T formed (owned-back fits T formed o) supply)

@@ -18,7 +18,7 @@ use Rattle.mailaddr.specs.Shape.{longestAddress}
 use Rattle.oraddr.specs.Add.{Outcome, told}
 use Rattle.oraddr.specs.Canonical.{canonicalRecord}
 use Rattle.oraddr.specs.Same.{sameRecord}
-use Rattle.oraddr.specs.View.{emptyRecord, view}
+use Rattle.oraddr.specs.View.{emptyRecord}
 use Rattle.oraddr.specs.declared.add.Addition.{Addition}
 use Rattle.oraddr.specs.declared.record.Record.{Record}
 use Rattle.table.specs.Formed.{Formed}

@@ -22,7 +22,7 @@ use Rattle.table_lookup.specs.Looked.{Looked, foundRow}
 use Rattle.table_lookup.specs.declared.lookup.Found.{Found}
 use Rattle.table_lookup.specs.declared.lookup.Found.the-variants.{At, Nowhere}
 use Rattle.table_lookup.specs.Begins.{betterBy, lookBy}
-use Rattle.table_lookup.specs.Lookup.{Key, begins, extension, look}
+use Rattle.table_lookup.specs.Lookup.{RowKey, begins, extension, look}
 use Rattle.table.proofs.Laws.Rows.{rows-snoc}
 use Rattle.table_lookup.proofs.Laws.Begins.{AnswerBy, IsEquality, found-by}
 
@@ -32,15 +32,15 @@ same-equality = record { itself = same-refl; either = same-sym; by = same-trans 
 
 -- ---- what the look-up answers
 
-abbrev pub Answer : Key → List Row → List Token → Option Row → Type 0
+abbrev pub Answer : RowKey → List Row → List Token → Option Row → Type 0
 Answer key rows q o = AnswerBy sameText key rows q o
 
-pub found : (key : Key) (rows : List Row) (q : List Token) → Answer key rows q (look key rows q)
+pub found : (key : RowKey) (rows : List Row) (q : List Token) → Answer key rows q (look key rows q)
 found key rows q = found-by sameText key rows q
 
 -- ---- one more row behind the others, as a loop comes to it
 
-module _ (key : Key) where
+module _ (key : RowKey) where
   unfoldable pub after : List Token → Option Row → Row → Option Row
   after q none r = cond (begins (key r) q) (some r) none
   after q (some b) r = cond (begins (key r) q && leb (length (key b)) (length (key r))) (some r) (some b)
@@ -97,13 +97,13 @@ unfolding rowsAt
 rows-more s ns n = let e : 0 + n ≡ n = omega arith in rw (add-one n) (rows-snoc s ns 0 n ∙ rw e)
 
 -- no row is found yet, or one whose key is no longer than row i's
-unfoldable pub noLonger : Key → List ℕ → List ℕ → Found → ℕ → Bool
+unfoldable pub noLonger : RowKey → List ℕ → List ℕ → Found → ℕ → Bool
 unfolding rowAt placesAt
 noLonger key s ns Nowhere i = true
 noLonger key s ns (At j) i = leb (length (key (rowAt s (placesAt ns j)))) (length (key (rowAt s (placesAt ns i))))
 
 -- a turn of the loop that looks: row i is taken, or passed over
-module _ (key : Key) (s ns : List ℕ) (q : List Token) (i : ℕ) where
+module _ (key : RowKey) (s ns : List ℕ) (q : List Token) (i : ℕ) where
   turn : (o : Found) (r : Option Row) → Looked key s ns i q o → after key q (foundRow s ns o) (rowAt s (placesAt ns i)) ≡ r → look key (rowsAt s ns (i + 1)) q ≡ r
   turn o r h e =
       ap (λ (l : List Row). look key l q) (rows-more s ns i)
@@ -132,6 +132,6 @@ module _ (key : Key) (s ns : List ℕ) (q : List Token) (i : ℕ) where
       let b : Answer key (rowsAt s ns i) q (some (rowAt s (placesAt ns j))) = rw (h .row) at (found key (rowsAt s ns i) q) in
       b .fits
 
-pub looked-none : (key : Key) (s ns : List ℕ) (q : List Token) → Looked key s ns 0 q Nowhere
+pub looked-none : (key : RowKey) (s ns : List ℕ) (q : List Token) → Looked key s ns 0 q Nowhere
 unfolding rowsAt rowsFrom lookBy foundRow
 looked-none key s ns q = record { row = refl; below = tt }
