@@ -25,7 +25,7 @@ use Rattle.ortext_write.specs.Write.{recordText}
 use Rattle.mailaddr.specs.Answers.{Shaping, fromShape, noShape, shaped, shaping, tooLong}
 use Rattle.mailaddr.specs.Code.{coded}
 use Rattle.mailaddr.specs.Shape.{Address, longestAddress, shapeOf}
-use Rattle.table.specs.Lines.{Loaded, loadedFrom, malformed, wellFormed}
+use Rattle.table.specs.Lines.{TableOutcome, loadedFrom, malformed, wellFormed}
 use Rattle.table.specs.Table.{Table}
 use Rattle.mapping.specs.Carried.{carriedWhole, carrierOf, carrying, longestCoded, resultOf}
 use Rattle.mapping.specs.Results.{RecordResult, malformedAddress, malformedRecord, mapped, placed, refusedAddress, refusedRecord}
@@ -74,7 +74,7 @@ by-shape t s (shaped a) =
     (λ c. by-test (ltb longestCoded (length (coded s))) (λ e. rw (c, e) (inr (refl, refl))) (λ e. rw (c, e) (inl refl)))
     (λ c. rw c (inl refl))
 
-record-ends : (l : Loaded) (s : List ℕ) → EndsRecord (1 ∷ 2 ∷ 3 ∷ 7 ∷ []) (toRecordBy l s .number) (toRecordBy l s .record')
+record-ends : (l : TableOutcome) (s : List ℕ) → EndsRecord (1 ∷ 2 ∷ 3 ∷ 7 ∷ []) (toRecordBy l s .number) (toRecordBy l s .record')
 unfolding toRecordBy malformedRecord toRecord member
 record-ends (malformed n) s = inr (refl, refl)
 record-ends (wellFormed t) s = by-shape t s (shaping s)
@@ -110,7 +110,7 @@ table-ends t r old =
     by-text none = left (4 ∷ 5 ∷ 6 ∷ 7 ∷ []) old 5 refl
     by-text (some s) = placed-ends (4 ∷ 5 ∷ 6 ∷ 7 ∷ []) old s refl
 
-address-ends : (l : Loaded) (r : Record) (old : List ℕ) → EndsBuffer (4 ∷ 5 ∷ 6 ∷ 7 ∷ []) old (toAddressBy l r old)
+address-ends : (l : TableOutcome) (r : Record) (old : List ℕ) → EndsBuffer (4 ∷ 5 ∷ 6 ∷ 7 ∷ []) old (toAddressBy l r old)
 unfolding toAddressBy member
 address-ends (malformed n) r old = left-malformed (4 ∷ 5 ∷ 6 ∷ 7 ∷ []) old n refl
 address-ends (wellFormed t) r old = table-ends t r old
@@ -146,7 +146,7 @@ reading-ends t refused old = left (4 ∷ 5 ∷ 6 ∷ 7 ∷ []) old 4 refl
 reading-ends t again old = left (4 ∷ 5 ∷ 6 ∷ 7 ∷ []) old 4 refl
 reading-ends t (read r) old = table-ends t r old
 
-sent-ends : (l : Loaded) (s old : List ℕ) → EndsBuffer (4 ∷ 5 ∷ 6 ∷ 7 ∷ []) old (textToAddressBy l s old)
+sent-ends : (l : TableOutcome) (s old : List ℕ) → EndsBuffer (4 ∷ 5 ∷ 6 ∷ 7 ∷ []) old (textToAddressBy l s old)
 unfolding textToAddressBy member
 sent-ends (malformed n) s old = left-malformed (4 ∷ 5 ∷ 6 ∷ 7 ∷ []) old n refl
 sent-ends (wellFormed t) s old = reading-ends t (readText keys 0 emptyRecord s) old
@@ -309,7 +309,7 @@ demand2 =
 other-table : {A : Type 0} (t : Table) (n : ℕ) → wellFormed t ≡ malformed n → A
 other-table t n h = let z : _≡_ {A = ℕ} 0 1 = cc in absurd (omega arith)
 
-tableOf : Table → Loaded → Table
+tableOf : Table → TableOutcome → Table
 tableOf u (malformed n) = u
 tableOf u (wellFormed t) = t
 
@@ -318,7 +318,7 @@ unfolding tableOf
 same-table t u h = ap (tableOf u) h
 
 module _ (table : List ℕ) (o : CheckResult) where
-  judgement : (l : Loaded) → loadedFrom table ≡ l → Demand3 l o → Judgement table o
+  judgement : (l : TableOutcome) → loadedFrom table ≡ l → Demand3 l o → Judgement table o
   unfolding member
   judgement (malformed n) e d =
       record {

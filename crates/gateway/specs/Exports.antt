@@ -13,7 +13,7 @@ use Rattle.oraddr.specs.declared.record.Record.{Record}
 use Rattle.ortext_read.specs.Apply.{Reading, again, read, readText, refused, unread}
 use Rattle.ortext_segments.specs.Keys.{keys}
 use Rattle.ortext_write.specs.Write.{recordText}
-use Rattle.table.specs.Lines.{Loaded, loadedFrom, malformed, wellFormed}
+use Rattle.table.specs.Lines.{TableOutcome, loadedFrom, malformed, wellFormed}
 use Rattle.table.specs.Table.{Table}
 use Rattle.mapping.specs.Results.{AddressResult, RecordResult, malformedAddress, placed, refusedAddress}
 use Rattle.mapping.specs.ToAddress.{toAddress}
@@ -49,7 +49,7 @@ readingToAddress t refused old = refusedAddress 4 old
 readingToAddress t again old = refusedAddress 4 old
 readingToAddress t (read r) old = toAddress t r old
 
-unfoldable pub textToAddressBy : Loaded → List ℕ → List ℕ → AddressResult
+unfoldable pub textToAddressBy : TableOutcome → List ℕ → List ℕ → AddressResult
 unfolding malformedAddress readingToAddress readText keys
 textToAddressBy (malformed l) s old = malformedAddress l old
 textToAddressBy (wellFormed t) s old = readingToAddress t (readText keys 0 emptyRecord s) old
@@ -88,7 +88,7 @@ pub record TellsMalformed (n : ℕ) (old : List ℕ) (r : ℕ) (new : List ℕ) 
   pub value : r ≡ 7 + 16 * n
   pub buffer : new ≡ old
 
-abbrev pub ExportedCheck : Loaded → List ℕ → ℕ → List ℕ → Type 0
+abbrev pub ExportedCheck : TableOutcome → List ℕ → ℕ → List ℕ → Type 0
 ExportedCheck (malformed n) old r new = TellsMalformed n old r new
 ExportedCheck (wellFormed t) old r new = TellsSound t old r new ⊎ TellsWitness t old r new
 

@@ -18,7 +18,8 @@ use Rattle.mailaddr.specs.Code.{decoded}
 use Rattle.mailaddr.specs.Domain.{inFront}
 use Rattle.mailaddr.specs.Shape.{addressText, shapeOf}
 use Rattle.table.specs.Table.{Row, Table, Token}
-use Rattle.table.specs.Lines.{Loaded, loadedFrom, malformed, wellFormed}
+use Rattle.table.specs.Lines.{TableOutcome, loadedFrom, malformed, wellFormed}
+use Rattle.table_lookup.specs.Begins.{beginsBy, lookBy}
 use Rattle.table_lookup.specs.Lookup.{begins, byPath, extension, look}
 use Rattle.mapping.specs.Carried.{carrierType, isNone}
 use Rattle.mapping.specs.Results.{AddressResult, malformedAddress, placed, refusedAddress}
@@ -27,7 +28,7 @@ use Rattle.mapping.specs.Results.{AddressResult, malformedAddress, place
 
 -- the levels are those of a path and no more; case aside, an omitted level being absent
 unfoldable pub hasLevels : List Token → List Token → Bool
-unfolding begins all nonEmpty
+unfolding beginsBy sameText all nonEmpty
 hasLevels path ls = begins path ls && all (λ l. not (nonEmpty l)) (drop (length path) ls)
 
 -- "no name": neither S nor G, I or GQ, which stand behind the levels
@@ -90,7 +91,7 @@ planBy t ls none = record { from = 0; domain = t .gateway .domain }
 planBy t ls (some r) = planUnder r ls
 
 unfoldable pub plan : Table → List Token → Plan
-unfolding planBy look
+unfolding planBy lookBy sameText
 plan t ls = planBy t ls (look byPath (t .toDomain) ls)
 
 -- "What is left goes in the local part."
@@ -116,7 +117,7 @@ unfolding canonicalRecord placedIn addressOf view refusedAddress
 toAddress t r old = cond (canonicalRecord r) (placedIn old (addressOf t (view r))) (refusedAddress 4 old)
 
 -- the same under what a table text comes to
-unfoldable pub toAddressBy : Loaded → Record → List ℕ → AddressResult
+unfoldable pub toAddressBy : TableOutcome → Record → List ℕ → AddressResult
 unfolding malformedAddress toAddress
 toAddressBy (malformed l) r old = malformedAddress l old
 toAddressBy (wellFormed t) r old = toAddress t r old

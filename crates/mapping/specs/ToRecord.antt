@@ -8,7 +8,7 @@ use Rattle.oraddr.specs.declared.record.Record.{Record}
 use Rattle.ortext_read.specs.Apply.{Reading, again, read, refused, unread}
 use Rattle.mailaddr.specs.Answers.{Shaping, noShape, shaped, shaping, tooLong}
 use Rattle.table.specs.Table.{Table}
-use Rattle.table.specs.Lines.{Loaded, loadedFrom, malformed, wellFormed}
+use Rattle.table.specs.Lines.{TableOutcome, loadedFrom, malformed, wellFormed}
 use Rattle.mapping.specs.Carried.{carriedWhole, carrying, resultOf}
 use Rattle.mapping.specs.Results.{RecordResult, malformedRecord, mapped, refusedRecord}
 
@@ -32,7 +32,7 @@ unfolding recordBy shaping
 toRecord t s = recordBy t s (shaping s)
 
 -- the same under what a table text comes to; 7 is first
-unfoldable pub toRecordBy : Loaded → List ℕ → RecordResult
+unfoldable pub toRecordBy : TableOutcome → List ℕ → RecordResult
 unfolding malformedRecord toRecord
 toRecordBy (malformed l) s = malformedRecord l
 toRecordBy (wellFormed t) s = toRecord t s

@@ -21,7 +21,7 @@ ghost use lib.ListN.{length, take};
 ghost use Rattle.chars.specs.Case.{sameText};
 ghost use Rattle.oraddr.specs.View.{ddValueView, ddsView, kindView, view};
 ghost use Rattle.mailaddr.specs.Code.{decoded};
-ghost use Rattle.table_lookup.specs.Looked.{Ended, tokensOf};
+ghost use Rattle.table_lookup.specs.Looked.{Ended, levelTokens};
 ghost use Rattle.table.specs.Rows.{RowInside, rowAt};
 ghost use Rattle.mapping.specs.Answers.{Writing};
 ghost use Rattle.mapping.specs.Carried.{carrierType};
@@ -31,7 +31,7 @@ ghost use Rattle.mapping.specs.ToAddress.{carriedAddress, hasLevels, inShape, i
 fn has_levels(text: &[u8], row: Row, flat: &[u8], ends: &[usize]) -> bool
     requires { ⌜ RowInside (now text) row ⌝ }
     requires { ⌜ Ended (now flat) (now ends) 8 ⌝ }
-    ensures { λ r. ⌜ r ≡ hasLevels (rowAt (now (text .entry)) row .path) (tokensOf (now (flat .entry)) (now (ends .entry))) ⌝ }
+    ensures { λ r. ⌜ r ≡ hasLevels (rowAt (now (text .entry)) row .path) (levelTokens (now (flat .entry)) (now (ends .entry))) ⌝ }
 {
     let k = match_path(text, row.path, row.path_end, flat, ends, 0, 8);
     if k == 0 {
@@ -78,7 +78,7 @@ fn is_one_carrier(dds: Dds) -> bool
 pub fn is_carrier(text: &[u8], gateway: Row, rec: Record, flat: &[u8], ends: &[usize]) -> bool
     requires { ⌜ RowInside (now text) gateway ⌝ }
     requires { ⌜ Ended (now flat) (now ends) 8 ⌝ }
-    ensures { λ r. ⌜ r ≡ (hasLevels (rowAt (now (text .entry)) gateway .path) (tokensOf (now (flat .entry)) (now (ends .entry))) && isNameless (view rec) && isOneCarrier (view rec .dds)) ⌝ }
+    ensures { λ r. ⌜ r ≡ (hasLevels (rowAt (now (text .entry)) gateway .path) (levelTokens (now (flat .entry)) (now (ends .entry))) && isNameless (view rec) && isOneCarrier (view rec .dds)) ⌝ }
 {
     if !has_levels(text, gateway, flat, ends) {
         return false;

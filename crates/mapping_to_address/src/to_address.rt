@@ -34,7 +34,7 @@ ghost use Rattle.oraddr.specs.View.{view};
 ghost use Rattle.ortext_segments.specs.Keys.{keys};
 ghost use Rattle.ortext_write.specs.Write.{localText, remaining};
 ghost use Rattle.mailaddr.specs.Shape.{addressText};
-ghost use Rattle.table_lookup.specs.Looked.{Ended, tokensOf};
+ghost use Rattle.table_lookup.specs.Looked.{Ended, levelTokens};
 ghost use Rattle.table_lookup.specs.Lookup.{begins};
 ghost use Rattle.table.specs.Rows.{Inside, RowInside, between, rowAt};
 ghost use Rattle.mapping.specs.Answers.{Routed, Writing, outward, toldAddress};
@@ -50,8 +50,8 @@ pub const ADDRESS_ROOM: usize = 2560;
 fn route_under(text: &[u8], row: Row, flat: &[u8], ends: &[usize]) -> Route
     requires { ⌜ RowInside (now text) row ⌝ }
     requires { ⌜ Ended (now flat) (now ends) 8 ⌝ }
-    requires { ⌜ begins (rowAt (now text) row .path) (tokensOf (now flat) (now ends)) ≡ true ⌝ }
-    ensures { λ r. ⌜ Routed (now (text .entry)) (tokensOf (now (flat .entry)) (now (ends .entry))) (planUnder (rowAt (now (text .entry)) row) (tokensOf (now (flat .entry)) (now (ends .entry)))) r ⌝ }
+    requires { ⌜ begins (rowAt (now text) row .path) (levelTokens (now flat) (now ends)) ≡ true ⌝ }
+    ensures { λ r. ⌜ Routed (now (text .entry)) (levelTokens (now (flat .entry)) (now (ends .entry))) (planUnder (rowAt (now (text .entry)) row) (levelTokens (now (flat .entry)) (now (ends .entry)))) r ⌝ }
 {
     let own = count_levels(text, row.path, row.path_end);
     let more = count_extension(flat, ends, own);
@@ -63,7 +63,7 @@ fn find_route(text: &[u8], to_domain: &[usize], table: Loaded, flat: &[u8], ends
     requires { ⌜ RowInside (now text) (table .gateway) ⌝ }
     requires { ⌜ Inside (now text) (now «to_domain») (table .«to_domain») ⌝ }
     requires { ⌜ Ended (now flat) (now ends) 8 ⌝ }
-    ensures { λ r. ⌜ Routed (now (text .entry)) (tokensOf (now (flat .entry)) (now (ends .entry))) (plan (outward (now (text .entry)) (now («to_domain» .entry)) table) (tokensOf (now (flat .entry)) (now (ends .entry)))) r ⌝ }
+    ensures { λ r. ⌜ Routed (now (text .entry)) (levelTokens (now (flat .entry)) (now (ends .entry))) (plan (outward (now (text .entry)) (now («to_domain» .entry)) table) (levelTokens (now (flat .entry)) (now (ends .entry)))) r ⌝ }
 {
     match find_path(text, to_domain, table.to_domain, flat, ends) {
         Found::At(i) => route_under(text, row_at(to_domain, i), flat, ends),
@@ -82,8 +82,8 @@ fn find_route(text: &[u8], to_domain: &[usize], table: Loaded, flat: &[u8], ends
 fn put_fronts(dst: &mut [u8], at: usize, flat: &[u8], ends: &[usize], k: usize, n: usize) -> usize
     requires { ⌜ k + n ≤ 8 ⌝ }
     requires { ⌜ Ended (now flat) (now ends) 8 ⌝ }
-    requires { ⌜ at + length (fronts (take n (drop k (tokensOf (now flat) (now ends))))) ≤ length (now dst) ⌝ }
-    ensures { λ r. ⌜ Wrote (now (dst .entry)) at (fronts (take n (drop k (tokensOf (now (flat .entry)) (now (ends .entry)))))) r (now (dst .exit)) ⌝ }
+    requires { ⌜ at + length (fronts (take n (drop k (levelTokens (now flat) (now ends))))) ≤ length (now dst) ⌝ }
+    ensures { λ r. ⌜ Wrote (now (dst .entry)) at (fronts (take n (drop k (levelTokens (now (flat .entry)) (now (ends .entry)))))) r (now (dst .exit)) ⌝ }
 {
     let mut next = at;
     let mut i = k + n;

@@ -11,7 +11,7 @@ use Rattle.oraddr.specs.View.{emptyRecord, view}
 use Rattle.ortext_read.specs.Apply.{Reading, again, read, readText, refused, unread}
 use Rattle.ortext_segments.specs.Keys.{keys}
 use Rattle.ortext_write.specs.Write.{recordText}
-use Rattle.table.specs.Lines.{Loaded, malformed, wellFormed}
+use Rattle.table.specs.Lines.{TableOutcome, malformed, wellFormed}
 use Rattle.table.specs.Table.{Table}
 use Rattle.mapping.specs.Results.{RecordResult}
 use Rattle.mapping.specs.ToAddress.{addressOf}
@@ -52,18 +52,18 @@ readLine t again = refusedLine 4
 readLine t (read r) = cond (canonicalRecord r) (sentLine (addressOf t (view r))) (refusedLine 4)
 
 -- a record text: the record's address
-unfoldable pub textLine : Loaded → List ℕ → List ℕ
+unfoldable pub textLine : TableOutcome → List ℕ → List ℕ
 unfolding refusedLine readLine readText keys
 textLine (malformed n) s = refusedLine 7
 textLine (wellFormed t) s = readLine t (readText keys 0 emptyRecord s)
 
 -- "Lines are a capital `A` or `O`, tab, address or record text"
-unfoldable pub taggedLine : Loaded → ℕ → List ℕ → List ℕ
+unfoldable pub taggedLine : TableOutcome → ℕ → List ℕ → List ℕ
 unfolding recordLine toRecordBy textLine refusedLine
 taggedLine l tag s = cond (eqb tag 65) (recordLine (toRecordBy l s)) (cond (eqb tag 79) (textLine l s) (refusedLine 1))
 
 -- "Any other line, or one over 4,096 bytes without its LF, prints 1."
-unfoldable pub lineAnswer : Loaded → List ℕ → List ℕ
+unfoldable pub lineAnswer : TableOutcome → List ℕ → List ℕ
 unfolding refusedLine taggedLine
 lineAnswer l s =
     cond (ltb longestLine (length s)) (refusedLine 1)

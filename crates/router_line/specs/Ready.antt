@@ -6,7 +6,7 @@ use Prim.Native.Nat.{ℕ, _+_, _≤_, _<_}
 use lib.ListN.{length}
 use Rattle.chars.specs.Write.{Wrote}
 use Rattle.table.specs.Formed.{Formed}
-use Rattle.table.specs.Lines.{Loaded, malformed, wellFormed}
+use Rattle.table.specs.Lines.{TableOutcome, malformed, wellFormed}
 use Rattle.table.specs.Load.{Kept}
 use Rattle.table.specs.Rows.{tableAt}
 use Rattle.table.specs.declared.load.TableRead.{TableRead}
@@ -15,7 +15,7 @@ use Rattle.router_line.specs.declared.line.Placing.{Placing}
 use Rattle.router_line.specs.declared.line.Placing.the-variants.{Next, Full}
 
 -- a table that a text spells keeps the rules of "The table text"
-abbrev pub FormedBy : Loaded → Type 0
+abbrev pub FormedBy : TableOutcome → Type 0
 FormedBy (malformed n) = Unit
 FormedBy (wellFormed t) = Formed t
 

@@ -13,10 +13,10 @@ use Rattle.oraddr.specs.View.{emptyRecord}
 use Rattle.oraddr.specs.declared.record.Record.{Record}
 use Rattle.mailaddr.specs.Domain.{partsOf}
 use Rattle.table.specs.Table.{Row, Table, Token}
-use Rattle.table.specs.Lines.{Loaded, malformed, wellFormed}
+use Rattle.table.specs.Lines.{TableOutcome, malformed, wellFormed}
 use Rattle.table_settle.specs.Settle.{addLevels, begun}
 use Rattle.soundness.specs.Fits.{fits}
-use Rattle.soundness.specs.Folded.{domainRow, foldTokens, tokensOf}
+use Rattle.soundness.specs.Folded.{domainRow, foldTokens, tokenTable}
 use Rattle.soundness.specs.Sound.{Sound, Witness}
 use Rattle.soundness.specs.declared.answers.CheckAnswer.{CheckAnswer}
 use Rattle.soundness.specs.declared.answers.CheckAnswer.the-variants as answer
@@ -36,15 +36,15 @@ candidateOf ts = named (addLevels 0 ts (begun emptyRecord) .record')
 -- The first candidates of an R row come back: the levels of its path; with a fresh PRMD where it has two fields; with a fresh O where it
 -- omits PRMD and ends there.
 pub record FirstBack (t : Table) (r : Row) : Type 0 where
-  pub plain : 3 ≤ length (r .path) → Back (tokensOf t) (pad (domainRow r .key))
-  pub two : length (r .path) ≡ 2 → Tried (tokensOf t) (domainRow r) false
-  pub bare : length (r .path) ≡ 3 → getD (r .path) 2 [] ≡ [] → Tried (tokensOf t) (domainRow r) true
+  pub plain : 3 ≤ length (r .path) → Back (tokenTable t) (pad (domainRow r .key))
+  pub two : length (r .path) ≡ 2 → Tried (tokenTable t) (domainRow r) false
+  pub bare : length (r .path) ≡ 3 → getD (r .path) 2 [] ≡ [] → Tried (tokenTable t) (domainRow r) true
 
 -- The second candidate of an R row and a target's domain comes back, where the domain lies under the row's and its parts can be levels.
 abbrev pub SecondBack : Table → Row → List ℕ → Type 0
 SecondBack t r d =
     (z : List Token) → foldTokens (partsOf d) ≡ domainRow r .val ++ z → 1 ≤ length z → length (domainRow r .key) + length z ≤ 8
-    → fitsFrom fits (length (domainRow r .key)) z ≡ true → Back (tokensOf t) (pad (domainRow r .key ++ z))
+    → fitsFrom fits (length (domainRow r .key)) z ≡ true → Back (tokenTable t) (pad (domainRow r .key ++ z))
 
 abbrev pub isSound : CheckAnswer → Bool
 isSound answer.Sound = true
@@ -111,6 +111,6 @@ pub record IsRefused (t : Table) (o : CheckResult) : Type 0 where
   pub witness : Witness t (o .record')
 
 -- Demand 3, of what a table text comes to. (A sound table has no witness, so each number is given exactly when it is said.)
-abbrev pub Demand3 : Loaded → CheckResult → Type 0
+abbrev pub Demand3 : TableOutcome → CheckResult → Type 0
 Demand3 (malformed n) o = IsMalformed n o
 Demand3 (wellFormed t) o = IsAccepted t o ⊎ IsRefused t o

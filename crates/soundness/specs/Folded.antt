@@ -21,8 +21,8 @@ abbrev pub domainRow : table.Row → tokens.Row
 domainRow r = record { key = foldTokens (r .path); val = foldTokens (partsOf (r .domain)) }
 
 -- the gateway's domain and all the rows of a table, folded
-abbrev pub tokensOf : table.Table → tokens.Table
-tokensOf t =
+abbrev pub tokenTable : table.Table → tokens.Table
+tokenTable t =
     record {
       g = foldTokens (partsOf (t .gateway .domain));
       D = map pathRow (t .toPath);

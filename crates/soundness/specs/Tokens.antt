@@ -7,11 +7,12 @@ use mathlib.Core.Logic.{_⊎_}
 use mathlib.Core.Bool.{Bool, true, false, _&&_, cond}
 use mathlib.Core.List.{List, [], _∷_, _++_, List·Memᴰ}
 use mathlib.Core.Option.{Option, none, some}
-use lib.Dec.{ltb}
 use lib.ListN.{length, drop, getD, replicate}
 use Rattle.chars.specs.Lists.{all, nonEmpty}
 use Rattle.chars.specs.Case.{equalText}
 use Rattle.chars.specs.Domain.{isDomainPart}
+use Rattle.table_lookup.specs.Begins.{beginsBy, lookBy, resolveBy}
+use Rattle.table_lookup.specs.Lookup.{extension}
 
 -- ---- tables
 
@@ -32,42 +33,24 @@ pub record Table : Type 0 where
 
 -- ---- looking up
 
--- the first list begins the second, token by token
-unfoldable pub begins : List Tok → List Tok → Bool
-unfolding equalText
-begins [] q = true
-begins (a ∷ p) [] = false
-begins (a ∷ p) (b ∷ q) = equalText a b && begins p q
+abbrev pub keyOf : Row → List Tok
+keyOf r = r .key
 
--- the longer of a row that begins the query and the one found behind it
-unfoldable pub better : List Tok → Row → Option Row → Option Row
-unfolding begins
-better q r none = cond (begins (r .key) q) (some r) none
-better q r (some b) = cond (begins (r .key) q && ltb (length (b .key)) (length (r .key))) (some r) (some b)
+abbrev pub valOf : Row → List Tok
+valOf r = r .val
+
+-- the first list begins the second, token by token
+abbrev pub begins : List Tok → List Tok → Bool
+begins p q = beginsBy equalText p q
 
 -- document 01: "the D row with the longest domain that is a tail of it by whole parts", and "the R row with the longest path that begins
 -- the record's levels, an omitted PRMD matching an absent one"
-unfoldable pub look : List Row → List Tok → Option Row
-unfolding better
-look [] q = none
-look (r ∷ rows) q = better q r (look rows q)
-
--- document 01: "Its path settles its levels, omitted ones too; the parts left over, right to left, fill the next levels."
-unfoldable pub settled : List Tok → Option Row → Option (List Tok)
-settled q none = none
-settled q (some r) = some (r .val ++ drop (length (r .key)) q)
+abbrev pub look : List Row → List Tok → Option Row
+look rows q = lookBy equalText keyOf rows q
 
 -- the levels that a domain other than the gateway's settles
-unfoldable pub resolve : Table → List Tok → Option (List Tok)
-unfolding settled look
-resolve T q = settled q (look (T .D) q)
-
--- document 01: "Later levels go in front of its domain while present and domain parts; the first that is not stops this." (The empty
--- token is no domain part.)
-unfoldable pub ext : List Tok → List Tok
-unfolding isDomainPart
-ext [] = []
-ext (l ∷ L) = cond (isDomainPart l) (l ∷ ext L) []
+abbrev pub resolve : Table → List Tok → Option (List Tok)
+resolve T q = resolveBy equalText keyOf valOf (T .D) q
 
 -- ---- levels
 
@@ -105,7 +88,7 @@ pub record Comes (T : Table) (r : Row) (x L : List Tok) : Type 0 where
 -- with no row "all of it goes" in the local part "at the gateway's domain", which settles nothing
 abbrev pub BackBy : Table → List Tok → Option Row → Type 0
 BackBy T L none = Unit {0}
-BackBy T L (some r) = Comes T r (ext (drop (length (r .key)) L)) L
+BackBy T L (some r) = Comes T r (extension (drop (length (r .key)) L)) L
 
 -- the levels L come back under the table
 abbrev pub Back : Table → List Tok → Type 0
@@ -121,7 +104,7 @@ pub record IsPath (p : List Tok) : Type 0 where
 
 -- document 01, "The table text": "Two D rows with one domain, or two R rows with one path .. make the later line bad"; paths; domain parts.
 -- Nothing is asked of the gateway's domain, nor of the D rows' domains.
-pub record Formed (T : Table) : Type 0 where
+pub record WellKept (T : Table) : Type 0 where
   pub oneD : (r s : Row) → List·Memᴰ r (T .D) → List·Memᴰ s (T .D) → r .key ≡ s .key → r ≡ s
   pub oneR : (r s : Row) → List·Memᴰ r (T .R) → List·Memᴰ s (T .R) → r .key ≡ s .key → r ≡ s
   pub pathD : (r : Row) → List·Memᴰ r (T .D) → IsPath (r .val)

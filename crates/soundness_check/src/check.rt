@@ -41,7 +41,7 @@ ghost use Rattle.table.specs.Lines.{loadedFrom};
 ghost use Rattle.table.specs.Load.{Kept};
 ghost use Rattle.table.specs.Rows.{RowInside, rowAt, tableAt};
 ghost use Rattle.soundness.specs.Check.{AllFirst, AllSecond, AllUnder, Demand3, FirstBack, Judged, SecondBack, isSound, toldCheck};
-ghost use Rattle.soundness.specs.Folded.{domainRow, tokensOf};
+ghost use Rattle.soundness.specs.Folded.{domainRow, tokenTable};
 ghost use Rattle.soundness.specs.declared.answers.CheckAnswer.the-variants.{Sound as SoundAnswer};
 ghost use Rattle.soundness.specs.Tokens.{Back, Tried, pad};
 ghost use Rattle.soundness.specs.Sound.{Sound, comesBack};
@@ -148,7 +148,7 @@ fn judge_plain(
     requires { ⌜ Formed (tableAt (now text) (now «to_path») (now «to_domain») table) ⌝ }
     requires { ⌜ RowInside (now text) row ⌝ }
     requires { ⌜ List·Memᴰ (rowAt (now text) row) (tableAt (now text) (now «to_path») (now «to_domain») table .toDomain) ⌝ }
-    ensures { λ r. ⌜ Judged (tableAt (now (text .entry)) (now («to_path» .entry)) (now («to_domain» .entry)) table) (Back (tokensOf (tableAt (now (text .entry)) (now («to_path» .entry)) (now («to_domain» .entry)) table)) (pad (domainRow (rowAt (now (text .entry)) row) .key))) r ⌝ }
+    ensures { λ r. ⌜ Judged (tableAt (now (text .entry)) (now («to_path» .entry)) (now («to_domain» .entry)) table) (Back (tokenTable (tableAt (now (text .entry)) (now («to_path» .entry)) (now («to_domain» .entry)) table)) (pad (domainRow (rowAt (now (text .entry)) row) .key))) r ⌝ }
 {
     judge(text, to_path, to_domain, table, plain(text, row))
 }
@@ -168,7 +168,7 @@ fn judge_fresh(
     requires { ⌜ List·Memᴰ (rowAt (now text) row) (tableAt (now text) (now «to_path») (now «to_domain») table .toDomain) ⌝ }
     requires { ⌜ k ≡ length (rowAt (now text) row .path) ⌝ }
     requires { ⌜ (2 ≤ k) × (k ≤ 3) ⌝ }
-    ensures { λ r. ⌜ Judged (tableAt (now (text .entry)) (now («to_path» .entry)) (now («to_domain» .entry)) table) (Tried (tokensOf (tableAt (now (text .entry)) (now («to_path» .entry)) (now («to_domain» .entry)) table)) (domainRow (rowAt (now (text .entry)) row)) (eqb k 3)) r ⌝ }
+    ensures { λ r. ⌜ Judged (tableAt (now (text .entry)) (now («to_path» .entry)) (now («to_domain» .entry)) table) (Tried (tokenTable (tableAt (now (text .entry)) (now («to_path» .entry)) (now («to_domain» .entry)) table)) (domainRow (rowAt (now (text .entry)) row)) (eqb k 3)) r ⌝ }
 {
     let a = row.domain;
     let b = row.domain_end;

@@ -1,5 +1,5 @@
 // A label that no row has behind a row's path or behind its domain. Labels are three digits; each row uses up one number at most, so of
-// 514 one is free.
+// two more than there can be rows one is free.
 use chars::case::fold_case;
 use chars::parts::byte_at;
 use mailaddr::domain::part_start;
@@ -18,10 +18,10 @@ ghost use Rattle.chars.specs.Case.{foldText};
 ghost use Rattle.mailaddr.specs.Domain.{partsOf};
 ghost use Rattle.table.specs.Load.{Kept};
 ghost use Rattle.table.specs.Rows.{Inside, fieldsAt, rowAt, rowsAt, tableAt};
-ghost use Rattle.soundness.specs.Folded.{domainRow, foldTokens, pathRow, tokensOf};
-ghost use Rattle.soundness.specs.Labels.{firstFree, fresh, marked, numberOf, oddLabel};
+ghost use Rattle.soundness.specs.Folded.{domainRow, foldTokens, pathRow, tokenTable};
+ghost use Rattle.soundness.specs.Labels.{firstFree, fresh, labelLimit, marked, labelNumber, oddLabel};
 
-// How many numbers there are.
+// How many numbers are tried.
 pub const LABELS: usize = 514;
 
 fn wide(b: u8) -> usize
@@ -43,14 +43,14 @@ fn digit_at(token: &[u8], i: usize) -> usize
 
 // The number that the first three bytes of a token tell.
 fn number_of(token: &[u8]) -> usize
-    ensures { λ r. ⌜ r ≡ numberOf (foldText (now (token .entry))) ⌝ }
+    ensures { λ r. ⌜ r ≡ labelNumber (foldText (now (token .entry))) ⌝ }
 {
     100 * digit_at(token, 0) + 10 * digit_at(token, 1) + digit_at(token, 2)
 }
 
 // Marks the number of a token.
 fn mark(marks: &mut [bool], token: &[u8])
-    ensures { λ _. ⌜ now (marks .exit) ≡ set (now (marks .entry)) (numberOf (foldText (now (token .entry)))) true ⌝ }
+    ensures { λ _. ⌜ now (marks .exit) ≡ set (now (marks .entry)) (labelNumber (foldText (now (token .entry)))) true ⌝ }
 {
     let n = number_of(token);
     if n < marks.len() {
@@ -123,7 +123,7 @@ fn mark_paths(marks: &mut [bool], text: &[u8], rows: &[usize], n: usize, k: usiz
 
 // Marks the number that a domain has at part k, from the right.
 fn mark_domain(marks: &mut [bool], domain: &[u8], k: usize)
-    ensures { λ _. ⌜ now (marks .exit) ≡ set (now (marks .entry)) (numberOf (getD (foldTokens (partsOf (now (domain .entry)))) k [])) true ⌝ }
+    ensures { λ _. ⌜ now (marks .exit) ≡ set (now (marks .entry)) (labelNumber (getD (foldTokens (partsOf (now (domain .entry)))) k [])) true ⌝ }
 {
     let span = part_span(domain, k);
     let a = span.start;
@@ -173,7 +173,7 @@ pub fn free_number(
     requires { ⌜ Kept (now text) (now «to_path») (now «to_domain») table ⌝ }
     requires { ⌜ levels ≡ length (rowAt (now text) row .path) ⌝ }
     requires { ⌜ parts ≡ length (partsOf (rowAt (now text) row .domain)) ⌝ }
-    ensures { λ r. ⌜ r ≡ fresh (tokensOf (tableAt (now (text .entry)) (now («to_path» .entry)) (now («to_domain» .entry)) table)) (domainRow (rowAt (now (text .entry)) row)) ⌝ }
+    ensures { λ r. ⌜ r ≡ fresh (tokenTable (tableAt (now (text .entry)) (now («to_path» .entry)) (now («to_domain» .entry)) table)) (domainRow (rowAt (now (text .entry)) row)) ⌝ }
 {
     let mut marks = [false; LABELS];
     mark_paths(&mut marks, text, to_domain, table.to_domain, levels);
@@ -183,7 +183,7 @@ pub fn free_number(
 
 // The label of a number, with `+` behind: the first three bytes are a domain part, all four are none.
 pub fn odd_label(n: usize) -> [u8; 4]
-    requires { ⌜ n < 1000 ⌝ }
+    requires { ⌜ n < labelLimit ⌝ }
     ensures { λ r. ⌜ r ≡ oddLabel n ⌝ }
 {
     [

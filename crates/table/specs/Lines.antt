@@ -1,9 +1,8 @@
 -- Document 01, "The table text": its lines, which of them is bad, and the table that they spell.
 -- Assumes nothing.
-use Prim.Native.Nat.{ℕ, zero, suc, _+_}
+use Prim.Native.Nat.{ℕ, suc, _+_}
 use mathlib.Core.Bool.{Bool, true, false, _&&_, _||_, not, cond}
 use mathlib.Core.List.{List, [], _∷_, _++_}
-use mathlib.Core.Option.{Option, none, some}
 use lib.Dec.{leb, ltb, eqb}
 use lib.ListN.{length, getD, drop}
 use Rattle.chars.specs.Lists.{all, nonEmpty}
@@ -121,12 +120,12 @@ badRow t l =
 -- ---- the whole text
 
 -- what a table text comes to: the number of the first bad line, or the table
-pub data Loaded : Type 0 where
-  malformed : ℕ → Loaded
-  wellFormed : Table → Loaded
+pub data TableOutcome : Type 0 where
+  malformed : ℕ → TableOutcome
+  wellFormed : Table → TableOutcome
 
 -- the lines from the one with the number n on, after those that made the table t
-unfoldable pub readRows : ℕ → Table → List Line → Loaded
+unfoldable pub readRows : ℕ → Table → List Line → TableOutcome
 unfolding badRow withRow split
 readRows n t [] = wellFormed t
 readRows n t (l ∷ ls) = cond (badRow t l) (malformed n) (readRows (suc n) (withRow t (split 9 (l .text))) ls)
@@ -139,12 +138,12 @@ unfoldable pub badGateway : Line → Bool
 unfolding isGatewayLine split
 badGateway l = not (l .ended) || not (isGatewayLine (split 9 (l .text)))
 
-unfoldable pub readLines : List Line → Loaded
+unfoldable pub readLines : List Line → TableOutcome
 unfolding badGateway readRows gatewayTable split
 readLines [] = malformed 1
 readLines (l ∷ ls) = cond (badGateway l) (malformed 1) (readRows 2 (gatewayTable (split 9 (l .text))) ls)
 
 -- "At most 65,536 bytes (else line 0)."
-unfoldable pub loadedFrom : List ℕ → Loaded
+unfoldable pub loadedFrom : List ℕ → TableOutcome
 unfolding readLines tableLines
 loadedFrom s = cond (ltb longestTable (length s)) (malformed 0) (readLines (tableLines s))

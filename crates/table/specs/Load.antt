@@ -59,13 +59,13 @@ addedIf true t = Added t
 addedIf false t = Bad
 
 -- what the answer of reading a table text says of it: the table that it spells, or the number of its first bad line
-unfoldable pub loadAnswer : List ℕ → List ℕ → List ℕ → load.TableRead.TableRead → lines.Loaded
+unfoldable pub loadAnswer : List ℕ → List ℕ → List ℕ → load.TableRead.TableRead → lines.TableOutcome
 unfolding tableAt
 loadAnswer s ds rs (TableFound t) = wellFormed (tableAt s ds rs t)
 loadAnswer s ds rs (Malformed n) = malformed n
 
 -- document 01's number for each
-abbrev pub loadedNumber : lines.Loaded → ℕ
+abbrev pub loadedNumber : lines.TableOutcome → ℕ
 loadedNumber (malformed n) = 7
 loadedNumber (wellFormed t) = 0
 
@@ -75,6 +75,6 @@ KeptBy s ds rs (TableFound t) = Kept s ds rs t
 KeptBy s ds rs (Malformed n) = Unit
 
 -- Reading a table text that comes to l.
-pub record Loading (s : List ℕ) (l : lines.Loaded) (r : load.TableRead.TableRead) (ds rs : List ℕ) : Type 0 where
+pub record Loading (s : List ℕ) (l : lines.TableOutcome) (r : load.TableRead.TableRead) (ds rs : List ℕ) : Type 0 where
   pub answers : loadAnswer s ds rs r ≡ l
   pub kept : KeptBy s ds rs r

@@ -11,13 +11,16 @@ use Rattle.table.specs.Rows.{placesAt, putAt}
 use Rattle.table.specs.declared.line as line
 use Rattle.table.specs.declared.rows.Key.{Key}
 
--- what every mark is below
+-- what a mark is multiplied by with each byte, and what it stays below
+abbrev pub markFactor : ℕ
+markFactor = 16777619
+
 abbrev pub markLimit : ℕ
 markLimit = 4294967296
 
 -- the mark of the bytes that made the mark h, with one more behind them, and with more
 abbrev pub markWith : ℕ → ℕ → ℕ
-markWith h b = (h * 16777619 + b) % markLimit
+markWith h b = (h * markFactor + b) % markLimit
 
 unfoldable pub markFrom : ℕ → List ℕ → ℕ
 markFrom h [] = h
@@ -43,6 +46,6 @@ unfolding putAt
 putMarked ns i p mark = set (putAt ns i p) (marksAt + i) mark
 
 -- Putting a row behind the first n, unless one of them has its key: whether it was new, and the list if it was.
-pub record Placed (k : Key) (s ns : List ℕ) (n : ℕ) (p : line.Row.Row) (new : Bool) (ms : List ℕ) : Type 0 where
+pub record PutIfNew (k : Key) (s ns : List ℕ) (n : ℕ) (p : line.Row.Row) (new : Bool) (ms : List ℕ) : Type 0 where
   pub answers : new ≡ isNewKey k s ns n p
   pub rows : new ≡ true → ms ≡ putMarked ns n p (markOf (keyText k s p))

@@ -11,7 +11,7 @@ ghost use lib.ListN.{length};
 ghost use Rattle.table.specs.Keys.{isNewKey, keyPlace, keyText};
 ghost use Rattle.table.specs.Lines.{mostRows};
 ghost use Rattle.table.specs.Load.{rowsSize};
-ghost use Rattle.table.specs.Marks.{Marked, Placed, markOf, putMarked};
+ghost use Rattle.table.specs.Marks.{Marked, PutIfNew, markOf, putMarked};
 ghost use Rattle.table.specs.Rows.{Inside, RowInside, placesAt};
 
 pub const MOST_ROWS: usize = 512;
@@ -122,7 +122,7 @@ pub fn add_if_new(text: &[u8], rows: &mut [usize], n: usize, row: Row, key: Key)
     requires { ⌜ Inside (now text) (now rows) n ⌝ }
     requires { ⌜ Marked key (now text) (now rows) n ⌝ }
     requires { ⌜ RowInside (now text) row ⌝ }
-    ensures { λ r. ⌜ Placed key (now (text .entry)) (now (rows .entry)) n row r (now (rows .exit)) ⌝ }
+    ensures { λ r. ⌜ PutIfNew key (now (text .entry)) (now (rows .entry)) n row r (now (rows .exit)) ⌝ }
 {
     let own = key_of(row, key);
     let from = own.from;

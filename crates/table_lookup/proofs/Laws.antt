@@ -1,3 +1,4 @@
+pub mod Begins
 pub mod Extension
 pub mod Lookup
 pub mod Paths

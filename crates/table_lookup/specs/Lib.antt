@@ -1,3 +1,4 @@
+pub mod Begins
 pub mod Levels
 pub mod Looked
 pub mod Lookup

@@ -8,7 +8,7 @@ use Prim.Native.Nat.{ℕ, zero, suc, _+_, _≤_, _<_}
 use lib.ListN.{length, getD}
 use Rattle.table.specs.Table.{Row, Token}
 use Rattle.table.specs.Rows.{between, placesAt, rowAt, rowsAt}
-use Rattle.table_lookup.specs.Lookup.{Key, look}
+use Rattle.table_lookup.specs.Lookup.{RowKey, look}
 use Rattle.table_lookup.specs.declared.level.LevelKind.{LevelKind}
 use Rattle.table_lookup.specs.declared.level.LevelKind.the-variants.{Named, Omitted, NotReached}
 use Rattle.table_lookup.specs.declared.lookup.Found.{Found}
@@ -32,9 +32,9 @@ tokensFrom s ends k zero = []
 tokensFrom s ends k (suc n) = between s (getD ends k 0) (getD ends (suc k) 0) ∷ tokensFrom s ends (suc k) n
 
 -- the eight levels of a record
-unfoldable pub tokensOf : List ℕ → List ℕ → List Token
+unfoldable pub levelTokens : List ℕ → List ℕ → List Token
 unfolding tokensFrom
-tokensOf s ends = tokensFrom s ends 0 8
+levelTokens s ends = tokensFrom s ends 0 8
 
 -- The ends of n levels are there, in order, and in the text.
 pub record Ended (s ends : List ℕ) (n : ℕ) : Type 0 where
@@ -53,6 +53,6 @@ Below n Nowhere = Unit {0}
 Below n (At i) = i < n
 
 -- A look-up in the first n rows.
-pub record Looked (key : Key) (s ns : List ℕ) (n : ℕ) (q : List Token) (r : Found) : Type 0 where
+pub record Looked (key : RowKey) (s ns : List ℕ) (n : ℕ) (q : List Token) (r : Found) : Type 0 where
   pub row : look key (rowsAt s ns n) q ≡ foundRow s ns r
   pub below : Below n r

@@ -9,9 +9,16 @@ use Rattle.chars.specs.Case.{foldCase}
 use Rattle.chars.specs.Parts.{join}
 use Rattle.table_lookup.specs.Looked.{tokensFrom}
 
+-- below what the length is kept in a tag, and how many bytes there are
+abbrev pub tagSizes : ℕ
+tagSizes = 65536
+
+abbrev pub byteCount : ℕ
+byteCount = 256
+
 -- the tag of a text with so many bytes that ends with a byte
 abbrev pub tagBy : ℕ → ℕ → ℕ
-tagBy size end = size % 65536 * 256 + end
+tagBy size end = size % tagSizes * byteCount + end
 
 -- the last byte, letter case aside, of a text with a tab before it
 unfoldable pub endByte : List ℕ → ℕ

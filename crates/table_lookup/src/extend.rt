@@ -4,12 +4,12 @@ ghost use mathlib.Core.Path.{_≡_};
 ghost use Prim.Native.Nat.{_≤_};
 ghost use lib.ListN.{drop, length};
 ghost use Rattle.table_lookup.specs.Lookup.{extension};
-ghost use Rattle.table_lookup.specs.Looked.{Ended, tokensOf};
+ghost use Rattle.table_lookup.specs.Looked.{Ended, levelTokens};
 
 // How many levels from k on, of the eight that `levels` and `ends` spell, are domain parts one after the other.
 pub fn count_extension(levels: &[u8], ends: &[usize], k: usize) -> usize
     requires { ⌜ (k ≤ 8) × Ended (now levels) (now ends) 8 ⌝ }
-    ensures { λ r. ⌜ r ≡ length (extension (drop k (tokensOf (now (levels .entry)) (now (ends .entry))))) ⌝ }
+    ensures { λ r. ⌜ r ≡ length (extension (drop k (levelTokens (now (levels .entry)) (now (ends .entry))))) ⌝ }
 {
     let mut i = k;
     while i < 8 {

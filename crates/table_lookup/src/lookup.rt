@@ -17,7 +17,7 @@ ghost use Rattle.chars.specs.Case.{sameText};
 ghost use Rattle.mailaddr.specs.Domain.{partsOf};
 ghost use Rattle.table_lookup.specs.Levels.{levelToken};
 ghost use Rattle.table_lookup.specs.Lookup.{begins, byDomain, byPath};
-ghost use Rattle.table_lookup.specs.Looked.{Ended, KindInside, Looked, isReached, tokensFrom, tokensOf};
+ghost use Rattle.table_lookup.specs.Looked.{Ended, KindInside, Looked, isReached, tokensFrom, levelTokens};
 ghost use Rattle.table.specs.Rows.{Inside, between, fieldsAt};
 ghost use Rattle.table_lookup.specs.Tags.{Tagged};
 
@@ -158,7 +158,7 @@ fn match_tagged(
 // The row of the first n whose path is the longest that begins a record's levels.
 pub fn find_path(text: &[u8], rows: &[usize], n: usize, levels: &[u8], ends: &[usize]) -> Found
     requires { ⌜ Inside (now text) (now rows) n × Ended (now levels) (now ends) 8 ⌝ }
-    ensures { λ r. ⌜ Looked byPath (now (text .entry)) (now (rows .entry)) n (tokensOf (now (levels .entry)) (now (ends .entry))) r ⌝ }
+    ensures { λ r. ⌜ Looked byPath (now (text .entry)) (now (rows .entry)) n (levelTokens (now (levels .entry)) (now (ends .entry))) r ⌝ }
 {
     let mut tags = [0usize; LEVELS];
     fill_tags(&mut tags, levels, ends);

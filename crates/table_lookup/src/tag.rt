@@ -12,12 +12,17 @@ ghost use Rattle.table_lookup.specs.Tags.{Tagged, endByte, tagBy, tagOf}
 // How many levels a record has, and so how many paths its first levels make.
 pub const LEVELS: usize = 8;
 
+// Below what the length is kept in a tag, and how many bytes there are.
+const TAG_SIZES: usize = 65536;
+
+const BYTE_COUNT: usize = 256;
+
 // The tag of a text of this length that ends with this byte. Of the length only the lowest bits are kept, so that the tag is a number
 // whatever the length.
 fn tag_by(size: usize, end: u8) -> usize
     ensures { λ r. ⌜ r ≡ tagBy size end ⌝ }
 {
-    size % 65536 * 256 + (end as usize)
+    size % TAG_SIZES * BYTE_COUNT + (end as usize)
 }
 
 // The last byte of a text, letter case aside. Of an empty text it is a tab, so that a path that ends with an omitted level needs no

@@ -6,12 +6,14 @@ use mathlib.Core.List.{List, [], _∷_}
 use mathlib.Core.Option.{Option, none, some}
 use lib.Dec.{ltb, eqb}
 use lib.ListN.{length, take}
+use Rattle.chars.specs.Case.{sameText}
 use Rattle.chars.specs.Lists.{nonEmpty}
 use Rattle.mailaddr.specs.Domain.{partsOf}
 use Rattle.oraddr.specs.Add.{Outcome, addSingle, addUnit}
 use Rattle.oraddr.specs.View.{emptyRecord}
 use Rattle.oraddr.specs.declared.record.Record.{Record}
 use Rattle.table.specs.Table.{Row, Token}
+use Rattle.table_lookup.specs.Begins.{resolveBy}
 use Rattle.table_lookup.specs.Lookup.{resolve}
 use Rattle.table_settle.specs.declared.settle.Settled.{Settled}
 use Rattle.table_settle.specs.declared.settle.Settled.the-variants.{Levels, NoRow, PastUnits, PastBound}
@@ -52,7 +54,7 @@ settledFrom (some ts) =
 
 -- the levels that a domain settles, by the rows alone
 unfoldable pub settling : List Row → List ℕ → Settling
-unfolding settledFrom resolve
+unfolding settledFrom resolveBy sameText partsOf
 settling rows d = settledFrom (resolve rows d)
 
 -- the parts that a domain has before the part that starts at a place, the rightmost first

@@ -16,7 +16,7 @@ use Rattle.chars.proofs.Laws.Parts.{split-some}
 use Rattle.oraddr.specs.Canonical.{canonicalRecord}
 use Rattle.oraddr.specs.View.{view}
 use Rattle.oraddr.specs.declared.record.Record.{Record}
-use Rattle.table.specs.Lines.{Line, Loaded, badGateway, badRow, gatewayTable, linesOf, loadedFrom, longestTable, malformed, readLines, readRows, tableLines, wellFormed, withRow}
+use Rattle.table.specs.Lines.{Line, TableOutcome, badGateway, badRow, gatewayTable, linesOf, loadedFrom, longestTable, malformed, readLines, readRows, tableLines, wellFormed, withRow}
 use Rattle.table.specs.Table.{Table}
 use Rattle.mapping.specs.Carried.{carriedWhole, carrying, longestCoded}
 use Rattle.mapping.specs.Results.{malformedAddress, malformedRecord, mapped, placed, refusedAddress, refusedRecord}
@@ -61,11 +61,11 @@ table-lines s =
     (λ e. rw e (omega arith))
 
 -- the first bad line is one of the lines that are read
-abbrev NumberedIn : ℕ → Loaded → Type 0
+abbrev NumberedIn : ℕ → TableOutcome → Type 0
 NumberedIn m (malformed n) = n ≤ m
 NumberedIn m (wellFormed t) = Unit {0}
 
-numbered-more : (m k : ℕ) (l : Loaded) → m ≤ k → NumberedIn m l → NumberedIn k l
+numbered-more : (m k : ℕ) (l : TableOutcome) → m ≤ k → NumberedIn m l → NumberedIn k l
 numbered-more m k (malformed n) h e = omega arith
 numbered-more m k (wellFormed t) h e = tt
 
@@ -109,7 +109,7 @@ by-shape t s (shaped a) =
     (λ e. by-test (ltb longestCoded (length (coded s))) (λ g. rw (e, g)) (λ g. rw (e, g)))
     (λ e. rw e)
 
-by-loaded : (l : Loaded) (s : List ℕ) → ((n : ℕ) → l ≡ malformed n → n ≤ mostCount) → toRecordBy l s .line ≤ mostCount
+by-loaded : (l : TableOutcome) (s : List ℕ) → ((n : ℕ) → l ≡ malformed n → n ≤ mostCount) → toRecordBy l s .line ≤ mostCount
 unfolding toRecordBy malformedRecord toRecord
 by-loaded (malformed n) s h = h n refl
 by-loaded (wellFormed t) s h = rw (by-shape t s (shaping s)) (omega arith)
@@ -133,7 +133,7 @@ module _ (old : List ℕ) where
   by-text t r none h = (omega arith, omega arith)
   by-text t r (some s) h = (omega (arith, placed-size s old, h s refl), omega (arith, placed-line s old))
 
-  by-table : (l : Loaded) (r : Record) → ((n : ℕ) → l ≡ malformed n → n ≤ mostCount) → FormedBy l → (toAddressBy l r old .size ≤ mostCount) × (toAddressBy l r old .line ≤ mostCount)
+  by-table : (l : TableOutcome) (r : Record) → ((n : ℕ) → l ≡ malformed n → n ≤ mostCount) → FormedBy l → (toAddressBy l r old .size ≤ mostCount) × (toAddressBy l r old .line ≤ mostCount)
   unfolding toAddressBy malformedAddress toAddress refusedAddress
   by-table (malformed n) r h f = (omega arith, h n refl)
   by-table (wellFormed t) r h f =

@@ -24,7 +24,7 @@ use Rattle.ortext_read.specs.Apply.{again, read, readText, refused, unread}
 use Rattle.ortext_segments.specs.Keys.{keys}
 use Rattle.ortext_write.specs.Write.{recordText, remaining}
 use Rattle.ortext_write.proofs.Laws.Write.{text-bound}
-use Rattle.table.specs.Lines.{Loaded, loadedFrom, malformed, wellFormed}
+use Rattle.table.specs.Lines.{TableOutcome, loadedFrom, malformed, wellFormed}
 use Rattle.table.specs.Table.{Table}
 use Rattle.table.proofs.Laws.Formed.{loaded-formed}
 use Rattle.mapping.specs.Answers.{addressLine, addressNumber, recordLine, recordNumber, toldAddress, toldRecord}
@@ -65,7 +65,7 @@ exported o w r new e k = record { value = k ∙ ap packed e; buffer = ap (λ (x 
 
 -- ---- an address to a record's text
 
-loaded-canonical : (table s : List ℕ) (l : Loaded) → loadedFrom table ≡ l → toRecordBy l s .number ≡ 0 → canonicalRecord (toRecordBy l s .record') ≡ true
+loaded-canonical : (table s : List ℕ) (l : TableOutcome) → loadedFrom table ≡ l → toRecordBy l s .number ≡ 0 → canonicalRecord (toRecordBy l s .record') ≡ true
 unfolding toRecordBy malformedRecord
 loaded-canonical table s (malformed n) e h = absurd (omega arith)
 loaded-canonical table s (wellFormed t) e h = done-canonical t (loaded-formed table t e) s h
@@ -157,7 +157,7 @@ module _ (t : Table) (old : List ℕ) where
       (λ c. ap (λ (o : Outcome). toAddress t (o .record') old) (sym (outcome-done r c)))
       (λ c. ap (λ (o : Outcome). toAddress t (o .record') old) (sym (outcome-not r c)) ∙ empty-refused ∙ sym (refused-by r c))
 
-text-address : (l : Loaded) (s old : List ℕ) → toAddressBy l (recordOfText s .record') old ≡ textToAddressBy l s old
+text-address : (l : TableOutcome) (s old : List ℕ) → toAddressBy l (recordOfText s .record') old ≡ textToAddressBy l s old
 unfolding toAddressBy textToAddressBy recordOfText
 text-address (malformed n) s old = refl
 text-address (wellFormed t) s old = read-address t old (readText keys 0 emptyRecord s)
@@ -177,24 +177,24 @@ address-counts table r old new w e =
 -- ---- the check
 
 -- a witness is canonical
-pub witness-canonical : (l : Loaded) (o : CheckResult) → Demand3 l o → o .number ≡ 8 → canonicalRecord (o .record') ≡ true
+pub witness-canonical : (l : TableOutcome) (o : CheckResult) → Demand3 l o → o .number ≡ 8 → canonicalRecord (o .record') ≡ true
 witness-canonical (malformed n) o d h = absurd (omega (arith, d .number))
 witness-canonical (wellFormed t) o (inl a) h = absurd (omega (arith, a .number))
 witness-canonical (wellFormed t) o (inr r) h = r .witness .canonical
 
-pub tells-sound : (l : Loaded) (o : CheckResult) (old : List ℕ) → Demand3 l o → o .number ≡ 0 → ExportedCheck l old 0 old
+pub tells-sound : (l : TableOutcome) (o : CheckResult) (old : List ℕ) → Demand3 l o → o .number ≡ 0 → ExportedCheck l old 0 old
 tells-sound (malformed n) o old d h = absurd (omega (arith, d .number))
 tells-sound (wellFormed t) o old (inl a) h = inl (record { sound = a .sound; value = refl; buffer = refl })
 tells-sound (wellFormed t) o old (inr r) h = absurd (omega (arith, r .number))
 
-pub tells-witness : (l : Loaded) (o : CheckResult) (old new : List ℕ) (n : ℕ) → Demand3 l o → o .number ≡ 8 → Shown (recordText keys (view (o .record'))) old n new
+pub tells-witness : (l : TableOutcome) (o : CheckResult) (old new : List ℕ) (n : ℕ) → Demand3 l o → o .number ≡ 8 → Shown (recordText keys (view (o .record'))) old n new
     → ExportedCheck l old (8 + 16 * n) new
 tells-witness (malformed m) o old new n d h k = absurd (omega (arith, d .number))
 tells-witness (wellFormed t) o old new n (inl a) h k = absurd (omega (arith, a .number))
 tells-witness (wellFormed t) o old new n (inr r) h k =
     inr (record { shown = o .record'; witness = r .witness; value = ap (λ (m : ℕ). 8 + 16 * m) (k .size); buffer = k .buffer })
 
-pub tells-malformed : (l : Loaded) (o : CheckResult) (old : List ℕ) → Demand3 l o → o .number ≡ 7 → ExportedCheck l old (7 + 16 * o .line) old
+pub tells-malformed : (l : TableOutcome) (o : CheckResult) (old : List ℕ) → Demand3 l o → o .number ≡ 7 → ExportedCheck l old (7 + 16 * o .line) old
 tells-malformed (malformed n) o old d h = record { value = ap (λ (m : ℕ). 7 + 16 * m) (d .line); buffer = refl }
 tells-malformed (wellFormed t) o old (inl a) h = absurd (omega (arith, a .number))
 tells-malformed (wellFormed t) o old (inr r) h = absurd (omega (arith, r .number))
@@ -203,7 +203,7 @@ tells-malformed (wellFormed t) o old (inr r) h = absurd (omega (arith, r .number
 pub check-line : (table : List ℕ) (o : CheckResult) → Demand3 (loadedFrom table) o → o .line ≤ mostCount
 check-line table o d = by-table (loadedFrom table) refl d
   where
-    by-table : (l : Loaded) → loadedFrom table ≡ l → Demand3 l o → o .line ≤ mostCount
+    by-table : (l : TableOutcome) → loadedFrom table ≡ l → Demand3 l o → o .line ≤ mostCount
     by-table (malformed n) e d = omega (arith, d .line, line-bound table n e)
     by-table (wellFormed t) e (inl a) = omega (arith, a .line)
     by-table (wellFormed t) e (inr r) = omega (arith, r .line)

@@ -35,7 +35,8 @@ use Rattle.table.specs.Formed.{Formed}
 use Rattle.table.specs.Lines.{areFields, isField, isPath, isRow, loadedFrom, longestGatewayDomain, wellFormed}
 use Rattle.table_settle.specs.Settle.{addLevels, begun}
 use Rattle.table.proofs.Laws.Formed.{loaded-formed}
-use Rattle.table_lookup.proofs.Laws.Lookup.{begins-more, begins-refl}
+use Rattle.table_lookup.proofs.Laws.Begins.{begins-append}
+use Rattle.table_lookup.proofs.Laws.Lookup.{same-equality}
 use Rattle.table_settle.proofs.Laws.Settled.{LevelsMade, field-there, levelled, levelled-kept, levelled-levels, levelled-units, levels-made}
 use Rattle.mapping.specs.Carried.{carriedWhole, carrierOf, carrierType, carrying, isNone, longestCoded}
 use Rattle.mapping.specs.Results.{mapped, placed, refusedRecord}
@@ -75,7 +76,7 @@ blank-fill (suc n) = blank-fill n
 fills-levels : (ts : List Token) (n : ℕ) → hasLevels ts (ts ++ replicate n []) ≡ true
 unfolding hasLevels
 fills-levels ts n =
-    and-both (begins-more ts ts (replicate n []) (begins-refl ts))
+    and-both (begins-append same-equality ts (replicate n []))
     (ap (all (λ (l : Token). not (nonEmpty l))) (drop-append-seam ts (replicate n [])) ∙ blank-fill n)
 
 -- a path and a DD that keep their rules make canonical attributes

@@ -33,9 +33,9 @@ use Rattle.mailaddr.proofs.Laws.Code.{decoded-length}
 use Rattle.table.specs.Table.{Token}
 use Rattle.table.specs.Rows.{between}
 use Rattle.table_lookup.specs.Lookup.{begins}
-use Rattle.table_lookup.specs.Looked.{Ended, tokensFrom, tokensOf}
+use Rattle.table_lookup.specs.Looked.{Ended, tokensFrom, levelTokens}
 use Rattle.table_settle.specs.Settle.{addLevels, begun}
-use Rattle.table_lookup.proofs.Laws.Lookup.{begins-length}
+use Rattle.table_lookup.proofs.Laws.Begins.{begins-length}
 use Rattle.table_lookup.proofs.Laws.Paths.{empty-same}
 use Rattle.mapping.specs.Results.{mapped, refusedRecord}
 use Rattle.mapping.specs.Carried.{carrierOf, carrierType, carrying, isNone}
@@ -103,7 +103,7 @@ module _ (s ends : List ℕ) (to : ℕ) (h : Ended s ends to) where
 module _ (s ends : List ℕ) (path : List Token) (k : ℕ) (e : k ≡ cond (begins path (tokensFrom s ends 0 8)) (0 + length path) 0) where
   path-most : begins path (tokensFrom s ends 0 8) ≡ true → length path ≤ 8
   unfolding tokensFrom
-  path-most t = begins-length path (tokensFrom s ends 0 8) t
+  path-most t = begins-length sameText path (tokensFrom s ends 0 8) t
 
   pub levels-most : k ≤ 8
   levels-most =
@@ -111,15 +111,15 @@ module _ (s ends : List ℕ) (path : List Token) (k : ℕ) (e : k ≡ cond (begi
       (λ t. omega (arith, rw t at e, path-most t))
       (λ t. omega (arith, rw t at e))
 
-  pub levels-other : nonEmpty path ≡ true → k ≡ 0 → false ≡ hasLevels path (tokensOf s ends)
-  unfolding hasLevels tokensOf
+  pub levels-other : nonEmpty path ≡ true → k ≡ 0 → false ≡ hasLevels path (levelTokens s ends)
+  unfolding hasLevels levelTokens
   levels-other n z =
       by-test (begins path (tokensFrom s ends 0 8))
       (λ t. absurd (omega (arith, rw t at e, ltb-true 0 (length path) (some-test path ∙ n))))
       (λ t. rw t)
 
-  pub levels-rest : Ended s ends 8 → (k ≡ 0 → ⊥) → eqb (getD ends k 0) (getD ends 8 0) ≡ hasLevels path (tokensOf s ends)
-  unfolding hasLevels tokensOf
+  pub levels-rest : Ended s ends 8 → (k ≡ 0 → ⊥) → eqb (getD ends k 0) (getD ends 8 0) ≡ hasLevels path (levelTokens s ends)
+  unfolding hasLevels levelTokens
   levels-rest h n =
       by-test (begins path (tokensFrom s ends 0 8))
       (λ t. rw t (sym (blank-behind s ends 8 h 0 8 (length path) k refl (path-most t) (sym (rw t at e)))))

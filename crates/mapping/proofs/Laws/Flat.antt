@@ -29,7 +29,7 @@ use Rattle.oraddr.specs.declared.record.Record.{Record}
 use Rattle.mailaddr.specs.Domain.{inFront}
 use Rattle.table.specs.Table.{Token}
 use Rattle.table.specs.Rows.{between}
-use Rattle.table_lookup.specs.Looked.{Ended, tokensFrom, tokensOf}
+use Rattle.table_lookup.specs.Looked.{Ended, tokensFrom, levelTokens}
 use Rattle.table.proofs.Laws.Fields.{between-length, region}
 use Rattle.mapping.specs.Flat.{Flat, fronts}
 use Rattle.mapping.specs.ToAddress.{extended}
@@ -52,8 +52,8 @@ module _ (s ends : List ℕ) where
       tokens-part (suc k) i n m (omega arith) ∙ rw e
 
   -- n of the eight levels, from k on
-  pub tokens-some : (k n : ℕ) → k + n ≤ 8 → take n (drop k (tokensOf s ends)) ≡ tokensFrom s ends k n
-  unfolding tokensOf
+  pub tokens-some : (k n : ℕ) → k + n ≤ 8 → take n (drop k (levelTokens s ends)) ≡ tokensFrom s ends k n
+  unfolding levelTokens
   tokens-some k n h = tokens-part 0 k n 8 h ∙ rw zero-add
 
   tokens-last : (k n : ℕ) → tokensFrom s ends k (suc n) ≡ tokensFrom s ends k n ++ (between s (getD ends (k + n) 0) (getD ends (k + n + 1) 0) ∷ [])
@@ -139,7 +139,7 @@ module _ (ls : List Token) (flat new ends : List ℕ) (k n next : ℕ) (room : k
       }
 
 pub filled-all : (ls : List Token) (n : ℕ) (flat ends : List ℕ) → length ls ≡ 8 → 8 < length ends → n ≤ length flat → n ≤ 512 → Filled ls 8 n flat ends → Flat ls flat ends
-unfolding tokensOf
+unfolding levelTokens
 filled-all ls n flat ends e room within m f =
     record {
       ended = record { room = room; ordered = λ k l. f .each k l .ordered; inside = λ k l. omega (arith, f .each k l .low) };
@@ -231,5 +231,5 @@ fronts-long {s} {ends} h k (suc n) l =
     omega (arith, rw e at (fronts-long h (suc k) n (omega arith)), length-append (fronts (tokensFrom s ends (suc k) n)) (p ++ (46 ∷ [])), length-append p (46 ∷ []), rw add-one at (h .ordered k (omega arith)))
 
 -- the levels in front of a domain take no more than all eight, with a dot for each
-pub length-fronts : {ls : List Token} {flat ends : List ℕ} → Flat ls flat ends → (k n : ℕ) → k + n ≤ 8 → length (fronts (take n (drop k (tokensOf flat ends)))) ≤ 520
+pub length-fronts : {ls : List Token} {flat ends : List ℕ} → Flat ls flat ends → (k n : ℕ) → k + n ≤ 8 → length (fronts (take n (drop k (levelTokens flat ends)))) ≤ 520
 length-fronts {ls} {flat} {ends} f k n h = rw (tokens-some flat ends k n h) (omega (arith, fronts-long (f .ended) k n h, rises (f .ended) (k + n) 8 h (omega arith), f .most))

@@ -24,10 +24,10 @@ use Rattle.ortext_write.proofs.Laws.Write.{local-bound, text-class}
 use Rattle.mailaddr.specs.Shape.{addressText, quotedLocal}
 use Rattle.mailaddr.proofs.Laws.Shape.{length-quoted-quotable, quoted-atoms}
 use Rattle.table.specs.Table.{Row, Table, Token}
-use Rattle.table.specs.Lines.{Loaded, loadedFrom}
+use Rattle.table.specs.Lines.{TableOutcome, loadedFrom}
 use Rattle.table.specs.Load.{Loading, loadAnswer}
 use Rattle.table_lookup.specs.Lookup.{byPath, extension, look}
-use Rattle.table_lookup.specs.Looked.{Looked, foundRow, tokensFrom, tokensOf}
+use Rattle.table_lookup.specs.Looked.{Looked, foundRow, tokensFrom, levelTokens}
 use Rattle.table.specs.Rows.{RowInside, between, placesAt, rowAt, rowsAt, tableAt}
 use Rattle.table.specs.declared.line as line
 use Rattle.table.specs.declared.load as load
@@ -45,8 +45,8 @@ use Rattle.mapping.proofs.Laws.Flat.{extended-fronts, length-fronts}
 
 -- ---- the route
 
-pub length-tokens : (s ends : List ℕ) → length (tokensOf s ends) ≡ 8
-unfolding tokensOf tokensFrom
+pub length-tokens : (s ends : List ℕ) → length (levelTokens s ends) ≡ 8
+unfolding levelTokens tokensFrom
 length-tokens s ends = refl
 
 extension-take : (l : List Token) → extension l ≡ take (length (extension l)) l
@@ -125,7 +125,7 @@ module _ (t : Table) (a : Attributes) where
 
 -- the test of the code is the definition's
 pub carrier-test : (s rs flat ends : List ℕ) (t : load.Loaded.Loaded) (a : Attributes) → Flat (levels a) flat ends
-    → (hasLevels (rowAt s (t .gateway) .path) (tokensOf flat ends) && isNameless a && isOneCarrier (a .dds)) ≡ isCarrier (outward s rs t) a
+    → (hasLevels (rowAt s (t .gateway) .path) (levelTokens flat ends) && isNameless a && isOneCarrier (a .dds)) ≡ isCarrier (outward s rs t) a
 unfolding isCarrier
 carrier-test s rs flat ends t a f =
     ap (λ (ls : List Token). hasLevels (rowAt s (t .gateway) .path) ls && isNameless a && isOneCarrier (a .dds)) (f .holds)
@@ -171,8 +171,8 @@ module _ (s ds rs : List ℕ) (t : load.Loaded.Loaded) where
 module _ (s ds rs : List ℕ) (r : Record) (old : List ℕ) where
   pub answer-table : (t : load.Loaded.Loaded) → Loading s (loadedFrom s) (TableFound t) ds rs → toAddress (outward s rs t) r old ≡ recordToAddress s r old
   unfolding recordToAddress toAddressBy loadAnswer
-  answer-table t h = address-table s ds rs t r old ∙ ap (λ (l : Loaded). toAddressBy l r old) (h .answers)
+  answer-table t h = address-table s ds rs t r old ∙ ap (λ (l : TableOutcome). toAddressBy l r old) (h .answers)
 
   pub answer-malformed : (n : ℕ) → Loading s (loadedFrom s) (TableMalformed n) ds rs → toldAddress (record { answer = Malformed n; size = 0 }) old ≡ recordToAddress s r old
   unfolding toldAddress addressNumber addressLine recordToAddress toAddressBy malformedAddress loadAnswer
-  answer-malformed n h = ap (λ (l : Loaded). toAddressBy l r old) (h .answers)
+  answer-malformed n h = ap (λ (l : TableOutcome). toAddressBy l r old) (h .answers)

@@ -12,7 +12,7 @@ use lib.Dec.{ltb}
 use lib.ListN.{length, take, drop}
 use Rattle.chars.specs.Parts.{run}
 use Rattle.chars.proofs.Laws.Lists.{by-test}
-use Rattle.table.specs.Lines.{Loaded}
+use Rattle.table.specs.Lines.{TableOutcome}
 use Rattle.router_line.specs.Line.{answerRoom}
 use Rattle.router.specs.Run.{Calls, Lacks, Routing, Waits, afterLine, called, due, ended, whole}
 use Rattle.router_line.specs.Ready.{FormedBy}
@@ -21,13 +21,13 @@ use Rattle.router_line.proofs.Laws.Line.{answer-length}
 use Rattle.router.proofs.Laws.Run.{whole-none}
 
 -- when nothing is left, nothing is due
-due-none : (l : Loaded) (over : Bool) → due l over [] ≡ []
+due-none : (l : TableOutcome) (over : Bool) → due l over [] ≡ []
 unfolding due afterLine run
 due-none l false = whole-none l
 due-none l true = whole-none l
 
 -- what calls write, one after the other, is what was due when they began
-pub calls-due : {l : Loaded} {over : Bool} {kept input out : List ℕ} → Calls l over kept input out → out ≡ due l over (kept ++ input)
+pub calls-due : {l : TableOutcome} {over : Bool} {kept input out : List ℕ} → Calls l over kept input out → out ≡ due l over (kept ++ input)
 calls-due {l} (ended over) = sym (due-none l over)
 calls-due {l} (called over last kept chunk rest out old new r c e next) =
     ap (λ (t : List ℕ). c .went .text ++ t) (calls-due next)
@@ -35,12 +35,12 @@ calls-due {l} (called over last kept chunk rest out old new r c e next) =
     ∙ ap (due l over) (append-assoc kept chunk rest)
 
 -- the whole output is that of the whole input
-pub calls-whole : {l : Loaded} {input out : List ℕ} → Calls l false [] input out → out ≡ whole l input
+pub calls-whole : {l : TableOutcome} {input out : List ℕ} → Calls l false [] input out → out ≡ whole l input
 unfolding due
 calls-whole c = calls-due c
 
 -- a call with room for one answer that takes nothing has nothing to answer: no LF has come, nor more than a line may have, nor the end
-pub call-moves : {l : Loaded} {over last : Bool} {s old new : List ℕ} {r : Routed} → FormedBy l → Routing l over s last old r new
+pub call-moves : {l : TableOutcome} {over last : Bool} {s old new : List ℕ} {r : Routed} → FormedBy l → Routing l over s last old r new
     → answerRoom ≤ length old → r .taken ≡ 0 → Waits last s
 call-moves {l} {over} {last} {s} {old} {new} {r} f c k z =
     by-stop (subst (λ (n : ℕ). Waits last (drop n s) ⊎ Lacks l (drop n s) (r .written) (length old)) z (c .stops))

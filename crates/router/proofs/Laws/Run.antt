@@ -17,7 +17,7 @@ use Rattle.chars.specs.Write.{Wrote}
 use Rattle.chars.proofs.Laws.Lists.{by-test, true-not-false}
 use Rattle.chars.proofs.Laws.Parts.{run-le, split-first, split-last, split-some}
 use Rattle.chars.proofs.Laws.Write.{wrote-length, wrote-nothing, wrote-then}
-use Rattle.table.specs.Lines.{Loaded}
+use Rattle.table.specs.Lines.{TableOutcome}
 use Rattle.router_line.specs.Line.{lineAnswer, longestLine, refusedLine}
 use Rattle.router.specs.Run.{Lacks, RoutingFrom, Waits, Went, afterLine, answers, due, linesOf, whole}
 use Rattle.router.specs.declared.run.Routed.{Routed}
@@ -44,7 +44,7 @@ run-out (x ∷ s) f h =
 
 -- ---- the whole, by its first line
 
-module _ (l : Loaded) where
+module _ (l : TableOutcome) where
   -- a part that has another behind it is a line
   first-line : (p : List ℕ) (ps : List (List ℕ)) → nonEmpty ps ≡ true → answers l (linesOf (p ∷ ps)) ≡ lineAnswer l p ++ answers l (linesOf ps)
   unfolding answers linesOf nonEmpty
@@ -140,7 +140,7 @@ module _ (l : Loaded) where
 
 -- ---- steps of a run
 
-module _ {l : Loaded} {s : List ℕ} {last : Bool} where
+module _ {l : TableOutcome} {s : List ℕ} {last : Bool} where
   pub went-start : (from at : ℕ) (old : List ℕ) → from ≤ length s → at ≤ length old → Went l false (drop from s) s last at old false from at old
   went-start from at old h k = record { text = []; wrote = wrote-nothing; room = k; within = h; on = omega arith; paid = λ z. absurd (omega arith); owed = λ f e. refl }
 
@@ -222,7 +222,7 @@ module _ {l : Loaded} {s : List ℕ} {last : Bool} where
 
 -- ---- where a call stops
 
-module _ {l : Loaded} {over : Bool} {q s : List ℕ} {last : Bool} {w : ℕ} {old mid : List ℕ} {at written : ℕ}
+module _ {l : TableOutcome} {over : Bool} {q s : List ℕ} {last : Bool} {w : ℕ} {old mid : List ℕ} {at written : ℕ}
     (a : Went l over q s last w old false at written mid) where
   -- what goes on from here
   pub routing-then : {r : Routed} {new : List ℕ} → RoutingFrom l false (drop at s) s last written mid r new → RoutingFrom l over q s last w old r new
@@ -254,7 +254,7 @@ module _ {l : Loaded} {over : Bool} {q s : List ℕ} {last : Bool} {w : ℕ} {ol
       routing-wait (rw d) (rw d (omega arith)) (λ _. d)
 
 -- a text that has no LF and was answered
-pub routing-rest : {l : Loaded} {s : List ℕ} {last : Bool} (over : Bool) (at w n : ℕ) (mid new : List ℕ) → at < length s → run 10 (drop at s) ≡ length (drop at s)
+pub routing-rest : {l : TableOutcome} {s : List ℕ} {last : Bool} (over : Bool) (at w n : ℕ) (mid new : List ℕ) → at < length s → run 10 (drop at s) ≡ length (drop at s)
     → over ≡ ltb longestLine (length (drop at s)) → (over ≡ false → last ≡ true) → Wrote mid w (lineAnswer l (drop at s)) n new → n ≤ length mid
     → RoutingFrom l false (drop at s) s last w mid (record { over = over; taken = length s; written = n }) new
 unfolding run
@@ -266,7 +266,7 @@ routing-rest {l} {s} {last} over at w n mid new h e o k wr m =
     }
 
 -- one that does not fit
-pub rest-full : {l : Loaded} {s : List ℕ} {last : Bool} (at w : ℕ) (mid new : List ℕ) → at < length s → run 10 (drop at s) ≡ length (drop at s)
+pub rest-full : {l : TableOutcome} {s : List ℕ} {last : Bool} (at w : ℕ) (mid new : List ℕ) → at < length s → run 10 (drop at s) ≡ length (drop at s)
     → w ≤ length mid → new ≡ mid → length mid < w + length (lineAnswer l (drop at s))
     → RoutingFrom l false (drop at s) s last w mid (record { over = false; taken = at; written = w }) new
 rest-full {l} {s} {last} at w mid new h e m z k =
@@ -274,7 +274,7 @@ rest-full {l} {s} {last} at w mid new h e m z k =
     routing-full (went-start at w mid (omega arith) m) new h z (rw t k)
 
 -- the rest of a line over the limit, all of it
-pub routing-more : {l : Loaded} {s : List ℕ} {last : Bool} (end : ℕ) (old : List ℕ) → end ≡ run 10 s → end ≡ length s
+pub routing-more : {l : TableOutcome} {s : List ℕ} {last : Bool} (end : ℕ) (old : List ℕ) → end ≡ run 10 s → end ≡ length s
     → RoutingFrom l true s s last 0 old (record { over = true; taken = end; written = 0 }) old
 unfolding run
 routing-more {l} {s} {last} end old e h =

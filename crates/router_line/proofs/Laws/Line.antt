@@ -123,7 +123,7 @@ module _ (s ds rs : List ℕ) (t : Loaded) where
 
 -- ---- the form of a line
 
-module _ (l : lines.Loaded) (s : List ℕ) where
+module _ (l : lines.TableOutcome) (s : List ℕ) where
   pub tagged-address : (tag : ℕ) → tag ≡ 65 → recordLine (toRecordBy l s) ≡ taggedLine l tag s
   unfolding taggedLine
   tagged-address tag h = rw h
@@ -154,7 +154,7 @@ short-byte [] h = refl
 short-byte (x ∷ []) h = refl
 short-byte (x ∷ y ∷ s) h = absurd (omega arith)
 
-pub line-short : (l : lines.Loaded) (s : List ℕ) → length s < 2 → refusedLine 1 ≡ lineAnswer l s
+pub line-short : (l : lines.TableOutcome) (s : List ℕ) → length s < 2 → refusedLine 1 ≡ lineAnswer l s
 line-short l s h = line-untabbed l s (omega arith) (λ e. let z = short-byte s h in absurd (omega arith))
 
 -- ---- how long an answer can be
@@ -198,17 +198,17 @@ malformed-length : (n : ℕ) → length (recordLine (malformedRecord n)) ≤ ans
 unfolding recordLine malformedRecord
 malformed-length n = refused-length 7
 
-address-length : (l : lines.Loaded) (s : List ℕ) → FormedBy l → length (recordLine (toRecordBy l s)) ≤ answerRoom
+address-length : (l : lines.TableOutcome) (s : List ℕ) → FormedBy l → length (recordLine (toRecordBy l s)) ≤ answerRoom
 unfolding toRecordBy
 address-length (malformed n) s f = malformed-length n
 address-length (wellFormed t) s f = record-length t f s
 
-text-length : (l : lines.Loaded) (s : List ℕ) → FormedBy l → length (textLine l s) ≤ answerRoom
+text-length : (l : lines.TableOutcome) (s : List ℕ) → FormedBy l → length (textLine l s) ≤ answerRoom
 unfolding textLine
 text-length (malformed n) s f = refused-length 7
 text-length (wellFormed t) s f = read-length t f (readText keys 0 emptyRecord s)
 
-tagged-length : (l : lines.Loaded) (tag : ℕ) (s : List ℕ) → FormedBy l → length (taggedLine l tag s) ≤ answerRoom
+tagged-length : (l : lines.TableOutcome) (tag : ℕ) (s : List ℕ) → FormedBy l → length (taggedLine l tag s) ≤ answerRoom
 unfolding taggedLine
 tagged-length l tag s f =
     by-test (eqb tag 65)
@@ -216,7 +216,7 @@ tagged-length l tag s f =
     (λ e. by-test (eqb tag 79) (λ g. rw (e, g) (text-length l s f)) (λ g. rw (e, g) (refused-length 1)))
 
 -- room for any answer
-pub answer-length : (l : lines.Loaded) (s : List ℕ) → FormedBy l → length (lineAnswer l s) ≤ answerRoom
+pub answer-length : (l : lines.TableOutcome) (s : List ℕ) → FormedBy l → length (lineAnswer l s) ≤ answerRoom
 unfolding lineAnswer
 answer-length l s f =
     by-test (ltb longestLine (length s))
@@ -241,6 +241,6 @@ loading-ready s ds rs (Malformed n) h = tt
 pub loaded-rules : (s : List ℕ) → FormedBy (loadedFrom s)
 loaded-rules s = by-text (loadedFrom s) refl
   where
-    by-text : (l : lines.Loaded) → loadedFrom s ≡ l → FormedBy l
+    by-text : (l : lines.TableOutcome) → loadedFrom s ≡ l → FormedBy l
     by-text (malformed n) e = tt
     by-text (wellFormed t) e = loaded-formed s t e

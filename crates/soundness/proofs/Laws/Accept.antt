@@ -35,7 +35,8 @@ use Rattle.table.specs.Table.{Row, Table, Token}
 use Rattle.table.specs.Formed as table
 use Rattle.table.specs.Lines.{areFields, isField, isLevel}
 use Rattle.table_lookup.specs.Lookup as lookup
-use Rattle.table_lookup.specs.Lookup.{byPath}
+use Rattle.table_lookup.specs.Lookup.{byPath, extension}
+use Rattle.table_lookup.proofs.Laws.Lookup.{extension-front}
 use Rattle.table_settle.specs.Settle.{Settling, addLevels, begun, settled, settledAs, settledFrom, settling}
 use Rattle.table_settle.proofs.Laws.Settled.{levelled-units, levels-made}
 use Rattle.mapping.specs.Answers.{isGood}
@@ -46,16 +47,16 @@ use Rattle.mapping.specs.ToRecord.{recordIn, toRecord}
 use Rattle.mapping.proofs.Laws.Route.{address-planned}
 use Rattle.mapping.proofs.Laws.Sent.{sent-record, sentPlan, sentReading, sentText}
 use Rattle.soundness.specs.Fits.{fits}
-use Rattle.soundness.specs.Folded.{domainRow, foldTokens, tokensOf}
+use Rattle.soundness.specs.Folded.{domainRow, foldTokens, tokenTable}
 use Rattle.soundness.specs.Sound.{Sound, backBy, comesBack, textOf}
 use Rattle.soundness.specs.Tokens as tokens
-use Rattle.soundness.specs.Tokens.{Checked, Tok, ext, fitsFrom}
+use Rattle.soundness.specs.Tokens.{Checked, Tok, fitsFrom}
 use Rattle.soundness.proofs.Laws.Comes.{comes-back}
 use Rattle.soundness.proofs.Laws.Fits.{levels-fit}
 use Rattle.soundness.proofs.Laws.Folded.{fields-fold, formed-fold, gateway-fold, look-path-fold, path-fields, plan-from-fold, plan-none-domain, plan-none-from, plan-parts-fold, resolve-fold}
 use Rattle.soundness.proofs.Laws.Look.{Answer, Best, begins-cut, found}
 use Rattle.soundness.proofs.Laws.Reading.{gateway-back, own-back}
-use Rattle.soundness.proofs.Laws.Sound.{Under, ext-front, own, under-levels}
+use Rattle.soundness.proofs.Laws.Sound.{Under, own, under-levels}
 
 -- ---- the tokens that a domain settles are fields
 
@@ -161,7 +162,7 @@ module _ (t : Table) (f : table.Formed t) (r : Record) (h : canonicalRecord r �
     back-none = read-back 0 emptyRecord at-gateway (plan-none-from t (levels (view r)) e) (gateway-back (view r) l (canonical-view r h))
 
   -- with a row, its path and the levels in front of its domain
-  module _ (l : length (view r .single) ≡ 8) (checked : Checked fits (tokensOf t)) (row : Row)
+  module _ (l : length (view r .single) ≡ 8) (checked : Checked fits (tokenTable t)) (row : Row)
       (e : lookup.look byPath (t .toDomain) (levels (view r)) ≡ some row) where
     abbrev key : List Tok
     key = domainRow row .key
@@ -170,16 +171,16 @@ module _ (t : Table) (f : table.Formed t) (r : Record) (h : canonicalRecord r �
     ls = foldTokens (levels (view r))
 
     abbrev x : List Tok
-    x = ext (drop (length key) ls)
+    x = extension (drop (length key) ls)
 
-    best : Best (tokensOf t .R) ls (domainRow row)
+    best : Best (tokenTable t .R) ls (domainRow row)
     best =
-        subst (λ (o : Option tokens.Row). Answer (tokensOf t .R) ls o)
+        subst (λ (o : Option tokens.Row). Answer (tokenTable t .R) ls o)
         (sym (look-path-fold (t .toDomain) (levels (view r))) ∙ ap (Option·map domainRow) e)
-        (found (tokensOf t .R) ls)
+        (found (tokenTable t .R) ls)
 
-    under : Under fits (tokensOf t) (domainRow row) x
-    under = under-levels fits (tokensOf t) (domainRow row) ls (levels-fit (view r) (canonical-view r h) l) best
+    under : Under fits (tokenTable t) (domainRow row) x
+    under = under-levels fits (tokenTable t) (domainRow row) ls (levels-fit (view r) (canonical-view r h) l) best
 
     fields : areFields 0 (key ++ x) ≡ true
     fields =
@@ -191,20 +192,20 @@ module _ (t : Table) (f : table.Formed t) (r : Record) (h : canonicalRecord r �
     front : key ++ x ≡ take (length (key ++ x)) ls
     front =
         let y : List Tok = drop (length x) (drop (length key) ls) in
-        let whole : (key ++ x) ++ y ≡ ls = append-assoc key x y ∙ ap (λ (s : List Tok). key ++ s) (ext-front (drop (length key) ls)) ∙ begins-cut key ls (best .fits) in
+        let whole : (key ++ x) ++ y ≡ ls = append-assoc key x y ∙ ap (λ (s : List Tok). key ++ s) (extension-front (drop (length key) ls)) ∙ begins-cut key ls (best .fits) in
         sym (ap (take (length (key ++ x))) (sym whole) ∙ take-at (key ++ x) y (length (key ++ x)) refl)
 
     away : isGateway t (sentPlan t r .domain) ≡ false
     away =
         by-test (isGateway t (sentPlan t r .domain))
-        (λ g. absurd (own fits (tokensOf t) (formed-fold t f) checked (domainRow row) x under .0 (sym (plan-parts-fold t (levels (view r)) row e) ∙ gateway-fold t (sentPlan t r .domain) .0 g)))
+        (λ g. absurd (own fits (tokenTable t) (formed-fold t f) checked (domainRow row) x under .0 (sym (plan-parts-fold t (levels (view r)) row e) ∙ gateway-fold t (sentPlan t r .domain) .0 g)))
         (λ g. g)
 
     resolves : Option·map foldTokens (lookup.resolve (t .toPath) (sentPlan t r .domain)) ≡ some (key ++ x)
     resolves =
         resolve-fold t (sentPlan t r .domain)
-        ∙ ap (tokens.resolve (tokensOf t)) (plan-parts-fold t (levels (view r)) row e)
-        ∙ own fits (tokensOf t) (formed-fold t f) checked (domainRow row) x under .1
+        ∙ ap (tokens.resolve (tokenTable t)) (plan-parts-fold t (levels (view r)) row e)
+        ∙ own fits (tokenTable t) (formed-fold t f) checked (domainRow row) x under .1
 
     module _ (ts : List Token) (g : lookup.resolve (t .toPath) (sentPlan t r .domain) ≡ some ts) (k : foldTokens ts ≡ key ++ x) where
       count : length ts ≡ length (key ++ x)
@@ -235,7 +236,7 @@ module _ (t : Table) (f : table.Formed t) (r : Record) (h : canonicalRecord r �
         let w = unfolded (lookup.resolve (t .toPath) (sentPlan t r .domain)) (key ++ x) resolves in
         back-row (w .0) (w .1) (w .2)
 
-  back : length (view r .single) ≡ 8 → Checked fits (tokensOf t) → ReadsAs (sentReading t r) (view r)
+  back : length (view r .single) ≡ 8 → Checked fits (tokenTable t) → ReadsAs (sentReading t r) (view r)
   back l checked = case (lookup.look byPath (t .toDomain) (levels (view r))) refl
     where
       case : (o : Option Row) → lookup.look byPath (t .toDomain) (levels (view r)) ≡ o → ReadsAs (sentReading t r) (view r)
@@ -245,10 +246,10 @@ module _ (t : Table) (f : table.Formed t) (r : Record) (h : canonicalRecord r �
 -- ---- the theorem
 
 -- The record's array of attributes is as long as its type says.
-pub accepted : (t : Table) → table.Formed t → Checked fits (tokensOf t) → (r : Record) → length (view r .single) ≡ 8
+pub accepted : (t : Table) → table.Formed t → Checked fits (tokenTable t) → (r : Record) → length (view r .single) ≡ 8
     → canonicalRecord r ≡ true → isCarrier t (view r) ≡ false → comesBack t r ≡ true
 accepted t f checked r l h free = by-reading t f r h free (back t f r h l checked)
 
 -- so for every buffer with room: the table is sound
-pub sound-table : (t : Table) → table.Formed t → Checked fits (tokensOf t) → Sound t
+pub sound-table : (t : Table) → table.Formed t → Checked fits (tokenTable t) → Sound t
 sound-table t f checked r l h free = comes-back t r (accepted t f checked r l h free)

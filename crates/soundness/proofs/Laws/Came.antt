@@ -10,7 +10,7 @@ use borrow.Author.Tests.{eqb-true, leb-true, ltb-false}
 use lib.Dec.{eqb, ltb}
 use lib.ListN.{length, length-append, length-map, drop, getD}
 use Rattle.chars.specs.Lists.{all, nonEmpty}
-use Rattle.chars.specs.Case.{foldText}
+use Rattle.chars.specs.Case.{foldText, sameText}
 use Rattle.chars.specs.Domain.{isDomainPart}
 use Rattle.chars.specs.Parts.{split}
 use Rattle.chars.proofs.Laws.Domain.{domain-part-length}
@@ -31,10 +31,11 @@ use Rattle.mailaddr.specs.Code.{coded}
 use Rattle.mailaddr.specs.Domain.{isDomain, partsOf}
 use Rattle.table.specs.Table.{Row, Table, Token}
 use Rattle.table.specs.Formed.{Formed}
-use Rattle.table_lookup.specs.Lookup.{byDomain, byPath, look, resolve, settledBy}
+use Rattle.table_lookup.specs.Lookup.{byDomain, byPath, extension, look, resolve}
 use Rattle.table_settle.specs.Settle.{Settling, addLevels, begun, noRow, pastBound, pastUnits, settled}
 use Rattle.table.specs.Lines.{isRow, longestRowDomain}
-use Rattle.table_lookup.proofs.Laws.Lookup.{Answer, Best, found}
+use Rattle.table_lookup.proofs.Laws.Begins.{BestBy, resolved}
+use Rattle.table_lookup.proofs.Laws.Lookup.{Answer, found}
 use Rattle.table_settle.proofs.Laws.Settled.{LevelsMade, levels-kept}
 use Rattle.mapping.specs.Answers.{isGood}
 use Rattle.mapping.specs.Carried.{carrierOf, carrying, isGateway, longestCoded, readOver, settledUnder}
@@ -46,9 +47,9 @@ use Rattle.mapping.proofs.Laws.CarriedBack.{carrier-is}
 use Rattle.mapping.proofs.Laws.Route.{address-planned}
 use Rattle.mapping.proofs.Laws.Sent.{plan-domain, sent-record, sent-shaped, sentAddress, sentReading, sentText}
 use Rattle.mapping.proofs.Laws.Whole.{by-domain, good-read}
-use Rattle.soundness.specs.Folded.{domainRow, foldTokens, tokensOf}
+use Rattle.soundness.specs.Folded.{domainRow, foldTokens, tokenTable}
 use Rattle.soundness.specs.Sound.{backBy, comesBack, textOf}
-use Rattle.soundness.specs.Tokens.{Agree, Back, BackBy, Comes, ext}
+use Rattle.soundness.specs.Tokens.{Agree, Back, BackBy, Comes}
 use Rattle.soundness.specs.Tokens as tokens
 use Rattle.soundness.proofs.Laws.Folded.{all-mem, fields-full, gateway-fold, look-path-fold, plan-from-fold, parts-all, plan-parts-fold, resolve-fold, row-path}
 use Rattle.soundness.proofs.Laws.Reading.{admd-there, gateway-lost, same-agree}
@@ -121,29 +122,23 @@ module _ (t : Table) (f : Formed t) (d : List ℕ) (i : isDomain d ≡ true) whe
   unfolding isDomain partsOf
   parts-there = all-weaken isDomainPart nonEmpty part-there (partsOf d) (parts-all (split 46 d) [] i refl)
 
-  -- by the row that was found: its units and its ADMD are there
-  by-found : (o : Option Row) → Answer byDomain (t .toPath) (partsOf d) o → (ts : List Token) → settledBy (partsOf d) o ≡ some ts
-      → (all nonEmpty (drop 4 ts) ≡ true) × (nonEmpty (getD ts ADMD []) ≡ true)
-  unfolding settledBy
-  by-found none m ts e = let z : _≡_ {A = ℕ} 0 1 = cc in absurd (omega arith)
-  by-found (some b) m ts e =
-      let rest = drop (length (partsOf (b .domain))) (partsOf d) in
-      let q : b .path ++ rest ≡ ts = cc in
-      let p = row-path b (all-mem (isRow longestRowDomain) (t .toPath) (f .paths) (m .mem)) in
-      let two = leb-true 2 (length (b .path)) (p .0) in (
-        rw (sym q) (all-behind 4 (b .path) rest (fields-full 0 4 (b .path) (omega arith) (p .2)) (all-drop nonEmpty (length (partsOf (b .domain))) (partsOf d) parts-there)),
-        rw (sym q) (ap nonEmpty (getD-front (b .path) rest two) ∙ admd-there (b .path) (p .2) two),
-      )
-
+  -- by the row that is found: its units and its ADMD are there
   pub resolved-there : (ts : List Token) → resolve (t .toPath) d ≡ some ts → (all nonEmpty (drop 4 ts) ≡ true) × (nonEmpty (getD ts ADMD []) ≡ true)
-  unfolding resolve
-  resolved-there ts e = by-found (look byDomain (t .toPath) (partsOf d)) (found byDomain (t .toPath) (partsOf d)) ts e
+  resolved-there ts e =
+      let w = resolved sameText byDomain byPath (t .toPath) (partsOf d) ts e in
+      let path = w .0 .path in
+      let rest = drop (length (partsOf (w .0 .domain))) (partsOf d) in
+      let p = row-path (w .0) (all-mem (isRow longestRowDomain) (t .toPath) (f .paths) (w .1 .mem)) in
+      let two = leb-true 2 (length path) (p .0) in (
+        rw (sym (w .2)) (all-behind 4 path rest (fields-full 0 4 path (omega arith) (p .2)) (all-drop nonEmpty (length (partsOf (w .0 .domain))) (partsOf d) parts-there)),
+        rw (sym (w .2)) (ap nonEmpty (getD-front path rest two) ∙ admd-there path (p .2) two),
+      )
 
 -- ---- the levels come back
 
 module _ (t : Table) (f : Formed t) (r : Record) (h : canonicalRecord r ≡ true) (l : length (view r .single) ≡ 8) (n : isCarrier t (view r) ≡ false) (c : comesBack t r ≡ true) where
   abbrev T : tokens.Table
-  T = tokensOf t
+  T = tokenTable t
 
   abbrev L : List Token
   L = levels (view r)
@@ -160,11 +155,11 @@ module _ (t : Table) (f : Formed t) (r : Record) (h : canonicalRecord r ≡ true
   -- under a row that was found
   module _ (b : Row) (e : look byPath (t .toDomain) L ≡ some b) where
     abbrev x : List tokens.Tok
-    x = ext (drop (length (domainRow b .key)) (foldTokens L))
+    x = extension (drop (length (domainRow b .key)) (foldTokens L))
 
     some-levels : 1 ≤ plan t L .from
     some-levels =
-        let m : Best byPath (t .toDomain) L b = subst (Answer byPath (t .toDomain) L) e (found byPath (t .toDomain) L) in
+        let m : BestBy sameText byPath (t .toDomain) L b = subst (Answer byPath (t .toDomain) L) e (found byPath (t .toDomain) L) in
         let p = row-path b (all-mem (isRow longestRowDomain) (t .toDomain) (f .domains) (m .mem)) in
         omega (
           arith,
@@ -208,5 +203,5 @@ module _ (t : Table) (f : Formed t) (r : Record) (h : canonicalRecord r ≡ true
   by-look (some b) e = comes b e
 
   -- what the check learns of a candidate
-  pub came-back : Back (tokensOf t) (foldTokens (levels (view r)))
+  pub came-back : Back (tokenTable t) (foldTokens (levels (view r)))
   came-back = subst (BackBy T (foldTokens L)) (look-path-fold (t .toDomain) L) (by-look (look byPath (t .toDomain) L) refl)

@@ -47,7 +47,7 @@ use Rattle.table_lookup.proofs.Laws.Tails.{fold-parts, tail-place, tail-whole}
 use Rattle.mapping.specs.ToAddress.{hasLevels, isCarrier, isNameless, isOneCarrier}
 use Rattle.soundness.specs.Check.{SecondBack, candidateOf, named}
 use Rattle.soundness.specs.Fits.{fits}
-use Rattle.soundness.specs.Folded.{domainRow, foldTokens, tokensOf}
+use Rattle.soundness.specs.Folded.{domainRow, foldTokens, tokenTable}
 use Rattle.soundness.specs.Labels.{fresh, label, oddLabel}
 use Rattle.soundness.specs.Sound.{IsStruct, comesBack}
 use Rattle.soundness.specs.Tokens as tokens
@@ -56,7 +56,8 @@ use Rattle.soundness.proofs.Laws.Came.{came-back}
 use Rattle.soundness.proofs.Laws.Fits.{fits-from-fold}
 use Rattle.soundness.proofs.Laws.Folded.{begins-fold, few-fold, fields-fold, formed-fold, parts-all, path-fields}
 use Rattle.soundness.proofs.Laws.Fresh.{label-fresh, label-part, odd-fresh, odd-part}
-use Rattle.soundness.proofs.Laws.Look.{begins-append}
+use Rattle.table_lookup.proofs.Laws.Begins.{begins-append}
+use Rattle.soundness.proofs.Laws.Look.{equal-equality}
 
 -- ---- the attributes of a candidate
 
@@ -308,9 +309,9 @@ odd-field n = value-field 2 (oddLabel n) refl refl (odd-text n)
 -- ---- the candidates of an R row
 
 -- a candidate that comes back
-candidate-back : (t : Table) (f : Formed t) (ts us : List Token) → IsCandidate t ts → foldTokens ts ≡ us → comesBack t (candidateOf ts) ≡ true → Back (tokensOf t) (pad us)
+candidate-back : (t : Table) (f : Formed t) (ts us : List Token) → IsCandidate t ts → foldTokens ts ≡ us → comesBack t (candidateOf ts) ≡ true → Back (tokenTable t) (pad us)
 candidate-back t f ts us c e h =
-    subst (λ (l : List Tok). Back (tokensOf t) l) (c .levels ∙ ap pad e) (came-back t f (candidateOf ts) (c .canonical) (c .struct) (c .free) h)
+    subst (λ (l : List Tok). Back (tokenTable t) l) (c .levels ∙ ap pad e) (came-back t f (candidateOf ts) (c .canonical) (c .struct) (c .free) h)
 
 module _ (t : Table) (f : Formed t) (r : Row) (m : List·Memᴰ r (t .toDomain)) where
   path : tokens.IsPath (domainRow r .key)
@@ -326,7 +327,7 @@ module _ (t : Table) (f : Formed t) (r : Row) (m : List·Memᴰ r (t .toDomain))
   pub plain-candidate : IsCandidate t (r .path)
   plain-candidate = candidate t (r .path) fields two (omega (arith, path .eight, length-map (r .path) foldText))
 
-  pub plain-back : comesBack t (candidateOf (r .path)) ≡ true → Back (tokensOf t) (pad (domainRow r .key))
+  pub plain-back : comesBack t (candidateOf (r .path)) ≡ true → Back (tokenTable t) (pad (domainRow r .key))
   plain-back h = candidate-back t f (r .path) (domainRow r .key) plain-candidate refl h
 
   -- one more level behind it
@@ -342,12 +343,12 @@ module _ (t : Table) (f : Formed t) (r : Row) (m : List·Memᴰ r (t .toDomain))
   pub two-candidate : length (r .path) ≡ 2 → (n : ℕ) → IsCandidate t (r .path ++ oddLabel n ∷ [])
   two-candidate l n = more-candidate 2 (oddLabel n) l (omega arith) (odd-field n)
 
-  pub two-back : length (r .path) ≡ 2 → (n : ℕ) → n ≡ fresh (tokensOf t) (domainRow r) → comesBack t (candidateOf (r .path ++ oddLabel n ∷ [])) ≡ true
-      → Tried (tokensOf t) (domainRow r) false
+  pub two-back : length (r .path) ≡ 2 → (n : ℕ) → n ≡ fresh (tokenTable t) (domainRow r) → comesBack t (candidateOf (r .path ++ oddLabel n ∷ [])) ≡ true
+      → Tried (tokenTable t) (domainRow r) false
   two-back l n e h =
       record {
         f = oddLabel n;
-        fresh = subst (λ (k : ℕ). Fresh (tokensOf t) (domainRow r) (oddLabel k)) (sym e) (odd-fresh (tokensOf t) (domainRow r) (few-fold t f));
+        fresh = subst (λ (k : ℕ). Fresh (tokenTable t) (domainRow r) (oddLabel k)) (sym e) (odd-fresh (tokenTable t) (domainRow r) (few-fold t f));
         part = odd-part n;
         back = candidate-back t f (r .path ++ oddLabel n ∷ []) (domainRow r .key ++ oddLabel n ∷ []) (two-candidate l n) (more-fold (oddLabel n) (odd-fold n)) h;
       }
@@ -356,12 +357,12 @@ module _ (t : Table) (f : Formed t) (r : Row) (m : List·Memᴰ r (t .toDomain))
   pub bare-candidate : length (r .path) ≡ 3 → (n : ℕ) → IsCandidate t (r .path ++ label n ∷ [])
   bare-candidate l n = more-candidate 3 (label n) l (omega arith) (label-field n)
 
-  pub bare-back : length (r .path) ≡ 3 → (n : ℕ) → n ≡ fresh (tokensOf t) (domainRow r) → comesBack t (candidateOf (r .path ++ label n ∷ [])) ≡ true
-      → Tried (tokensOf t) (domainRow r) true
+  pub bare-back : length (r .path) ≡ 3 → (n : ℕ) → n ≡ fresh (tokenTable t) (domainRow r) → comesBack t (candidateOf (r .path ++ label n ∷ [])) ≡ true
+      → Tried (tokenTable t) (domainRow r) true
   bare-back l n e h =
       record {
         f = label n;
-        fresh = subst (λ (k : ℕ). Fresh (tokensOf t) (domainRow r) (label k)) (sym e) (label-fresh (tokensOf t) (domainRow r) (few-fold t f));
+        fresh = subst (λ (k : ℕ). Fresh (tokenTable t) (domainRow r) (label k)) (sym e) (label-fresh (tokenTable t) (domainRow r) (few-fold t f));
         part = label-part n;
         back = candidate-back t f (r .path ++ label n ∷ []) (domainRow r .key ++ label n ∷ []) (bare-candidate l n) (more-fold (label n) (label-fold n)) h;
       }
@@ -373,7 +374,7 @@ module _ (t : Table) (r : Row) (d : List ℕ) where
   pub second-none : begins (partsOf (r .domain)) (partsOf d) ≡ false → SecondBack t r d
   second-none h z e one eight within =
       true-not-false (begins (partsOf (r .domain)) (partsOf d))
-      (begins-fold (partsOf (r .domain)) (partsOf d) ∙ ap (tokens.begins (domainRow r .val)) e ∙ begins-append (domainRow r .val) z)
+      (begins-fold (partsOf (r .domain)) (partsOf d) ∙ ap (tokens.begins (domainRow r .val)) e ∙ begins-append equal-equality (domainRow r .val) z)
       h
 
   -- one that has no more parts than the row's, and one that has no more bytes

@@ -21,8 +21,8 @@ use Rattle.table_settle.specs.Settle.{addLevels, begun}
 use Rattle.table_settle.proofs.Laws.Settled.{levels-made}
 use Rattle.mapping.specs.ToAddress.{isCarrier}
 use Rattle.soundness.specs.Check.{FirstBack, candidateOf}
-use Rattle.soundness.specs.Folded.{domainRow, tokensOf}
-use Rattle.soundness.specs.Labels.{fresh, label, oddLabel}
+use Rattle.soundness.specs.Folded.{domainRow, tokenTable}
+use Rattle.soundness.specs.Labels.{fresh, label, labelLimit, oddLabel}
 use Rattle.soundness.specs.Sound.{comesBack}
 use Rattle.soundness.specs.Tokens.{Back, Tried, pad}
 use Rattle.soundness.proofs.Laws.Candidates.{IsCandidate, bare-back, bare-candidate, plain-back, plain-candidate, two-back, two-candidate}
@@ -58,15 +58,15 @@ module _ (t : Table) (f : Formed t) (r : Row) (m : List·Memᴰ r (t .toDomain))
   path-added = levels-made (r .path) (row-fields r row) (leb-true (length (r .path)) 8 (row-path r row .1)) .0
 
   -- its fresh number has three digits
-  pub fresh-small : (n : ℕ) → n ≡ fresh (tokensOf t) (domainRow r) → n < 1000
-  fresh-small n e = omega (arith, fresh-free (tokensOf t) (domainRow r) (few-fold t f) .0)
+  pub fresh-small : (n : ℕ) → n ≡ fresh (tokenTable t) (domainRow r) → n < labelLimit
+  fresh-small n e = omega (arith, fresh-free (tokenTable t) (domainRow r) (few-fold t f) .0)
 
   -- the levels of its path
   module _ (q : Record) (e : q ≡ candidateOf (r .path)) where
     pub plain-asks : (canonicalRecord q ≡ true) × (isCarrier t (view q) ≡ false)
     plain-asks = candidate-asks t (r .path) q e (plain-candidate t f r m)
 
-    pub plain-tried : comesBack t q ≡ true → Back (tokensOf t) (pad (domainRow r .key))
+    pub plain-tried : comesBack t q ≡ true → Back (tokenTable t) (pad (domainRow r .key))
     plain-tried h = plain-back t f r m (ap (comesBack t) (sym e) ∙ h)
 
   -- a path of two fields, or of three, with a token behind it
@@ -78,7 +78,7 @@ module _ (t : Table) (f : Formed t) (r : Row) (m : List·Memᴰ r (t .toDomain))
       pub two-asks : (canonicalRecord q ≡ true) × (isCarrier t (view q) ≡ false)
       two-asks = candidate-asks t (r .path ++ oddLabel n ∷ []) q odd-same (two-candidate t f r m (sym l ∙ two) n)
 
-      pub two-tried : n ≡ fresh (tokensOf t) (domainRow r) → comesBack t q ≡ true → Tried (tokensOf t) (domainRow r) (eqb k 3)
+      pub two-tried : n ≡ fresh (tokenTable t) (domainRow r) → comesBack t q ≡ true → Tried (tokenTable t) (domainRow r) (eqb k 3)
       two-tried g h = rw two (two-back t f r m (sym l ∙ two) n g (ap (comesBack t) (sym odd-same) ∙ h))
 
     module _ (three : k ≡ 3) (e : q ≡ candidateOf (r .path ++ take 3 bytes ∷ [])) where
@@ -88,21 +88,21 @@ module _ (t : Table) (f : Formed t) (r : Row) (m : List·Memᴰ r (t .toDomain))
       pub bare-asks : (canonicalRecord q ≡ true) × (isCarrier t (view q) ≡ false)
       bare-asks = candidate-asks t (r .path ++ label n ∷ []) q label-same (bare-candidate t f r m (sym l ∙ three) n)
 
-      pub bare-tried : n ≡ fresh (tokensOf t) (domainRow r) → comesBack t q ≡ true → Tried (tokensOf t) (domainRow r) (eqb k 3)
+      pub bare-tried : n ≡ fresh (tokenTable t) (domainRow r) → comesBack t q ≡ true → Tried (tokenTable t) (domainRow r) (eqb k 3)
       bare-tried g h = rw three (bare-back t f r m (sym l ∙ three) n g (ap (comesBack t) (sym label-same) ∙ h))
 
 -- ---- the first candidates of a row
 
 module _ (t : Table) (r : Row) (k : ℕ) (l : k ≡ length (r .path)) where
-  pub first-two : k ≡ 2 → Tried (tokensOf t) (domainRow r) (eqb k 3) → FirstBack t r
+  pub first-two : k ≡ 2 → Tried (tokenTable t) (domainRow r) (eqb k 3) → FirstBack t r
   first-two e p =
       record {
         plain = λ h. absurd (omega arith);
-        two = λ h. subst (Tried (tokensOf t) (domainRow r)) (ap (λ (n : ℕ). eqb n 3) e) p;
+        two = λ h. subst (Tried (tokenTable t) (domainRow r)) (ap (λ (n : ℕ). eqb n 3) e) p;
         bare = λ h. absurd (omega arith);
       }
 
-  module _ (other : k ≡ 2 → ⊥) (p : Back (tokensOf t) (pad (domainRow r .key))) where
+  module _ (other : k ≡ 2 → ⊥) (p : Back (tokenTable t) (pad (domainRow r .key))) where
     pub first-plain : (k ≡ 3 → ⊥) → FirstBack t r
     first-plain h = record { plain = λ n. p; two = λ e. absurd (other (l ∙ e)); bare = λ e. absurd (h (l ∙ e)) }
 
@@ -115,10 +115,10 @@ module _ (t : Table) (r : Row) (k : ℕ) (l : k ≡ length (r .path)) where
           bare = λ e z. absurd (h (sym (length-take-le n (drop at s) (omega (arith, length-drop at s))) ∙ ap length (d ∙ z)));
         }
 
-    pub first-bare : k ≡ 3 → Tried (tokensOf t) (domainRow r) (eqb k 3) → FirstBack t r
+    pub first-bare : k ≡ 3 → Tried (tokenTable t) (domainRow r) (eqb k 3) → FirstBack t r
     first-bare e q =
         record {
           plain = λ n. p;
           two = λ h. absurd (other (l ∙ h));
-          bare = λ h z. subst (Tried (tokensOf t) (domainRow r)) (ap (λ (n : ℕ). eqb n 3) e) q;
+          bare = λ h z. subst (Tried (tokenTable t) (domainRow r)) (ap (λ (n : ℕ). eqb n 3) e) q;
         }

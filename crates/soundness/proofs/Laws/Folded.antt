@@ -13,7 +13,7 @@ use lib.Dec.{leb, ltb}
 use lib.ListN.{length, drop, length-append, length-map}
 use lib.Seq.{append-snoc}
 use Rattle.chars.specs.Lists.{all, nonEmpty}
-use Rattle.chars.specs.Case.{foldText, sameText}
+use Rattle.chars.specs.Case.{equalText, foldText, sameText}
 use Rattle.chars.specs.Domain.{isDomainPart}
 use Rattle.chars.specs.Parts.{split}
 use Rattle.chars.proofs.Laws.Lists.{all-ext, all-map, and-both, and-left, and-right, and-three, by-test, true-not-false}
@@ -29,7 +29,8 @@ use Rattle.table.specs.Lines.{areFields, isField, isLevel, isPath, isRow, longe
 use Rattle.table.specs.Formed as table
 use Rattle.table.specs.Formed.{distinct}
 use Rattle.table_lookup.specs.Lookup as lookup
-use Rattle.table_lookup.specs.Lookup.{Key, byDomain, byPath, extension, settledBy}
+use Rattle.table_lookup.specs.Begins.{beginsBy, betterBy, lookBy, resolveBy, settledBy}
+use Rattle.table_lookup.specs.Lookup.{RowKey, byDomain, byPath, extension}
 use Rattle.table.proofs.Laws.Rows.{agree-fold}
 use Rattle.table_lookup.proofs.Laws.Lookup.{extension-parts}
 use Rattle.table_settle.proofs.Laws.Settled.{field-there}
@@ -37,24 +38,24 @@ use Rattle.table_lookup.proofs.Laws.Tails.{fold-parts}
 use Rattle.mapping.specs.Carried.{isGateway}
 use Rattle.mapping.specs.ToAddress.{extended, plan, planBy, planUnder}
 use Rattle.soundness.specs.Tokens as tokens
-use Rattle.soundness.specs.Tokens.{IsPath, Tok, ext}
-use Rattle.soundness.specs.Folded.{domainRow, foldTokens, pathRow, tokensOf}
+use Rattle.soundness.specs.Tokens.{IsPath, Tok, keyOf, valOf}
+use Rattle.soundness.specs.Folded.{domainRow, foldTokens, pathRow, tokenTable}
 
 -- ---- looking up
 
 pub begins-fold : (p q : List Token) → lookup.begins p q ≡ tokens.begins (foldTokens p) (foldTokens q)
-unfolding lookup.begins tokens.begins
+unfolding beginsBy
 begins-fold [] q = refl
 begins-fold (a ∷ p) [] = refl
 begins-fold (a ∷ p) (b ∷ q) = rw (same-folded a b, begins-fold p q)
 
 -- rows by their keys, each with what it tells
-module _ (key : Key) (val : Row → List Tok) where
+module _ (key : RowKey) (val : Row → List Tok) where
   abbrev keyed : Row → tokens.Row
   keyed r = record { key = foldTokens (key r); val = val r }
 
-  better-fold : (q : List Token) (r : Row) (o : Option Row) → Option·map keyed (lookup.better key q r o) ≡ tokens.better (foldTokens q) (keyed r) (Option·map keyed o)
-  unfolding lookup.better tokens.better
+  better-fold : (q : List Token) (r : Row) (o : Option Row) → Option·map keyed (betterBy sameText key q r o) ≡ betterBy equalText keyOf (foldTokens q) (keyed r) (Option·map keyed o)
+  unfolding betterBy
   better-fold q r none = by-test (lookup.begins (key r) q) (λ e. rw (← begins-fold (key r) q, e)) (λ e. rw (← begins-fold (key r) q, e))
   better-fold q r (some b) =
       by-test (lookup.begins (key r) q && ltb (length (key b)) (length (key r)))
@@ -62,12 +63,11 @@ module _ (key : Key) (val : Row → List Tok) where
       (λ e. rw (← begins-fold (key r) q, length-map (key b) foldText, length-map (key r) foldText, e))
 
   look-fold : (rows : List Row) (q : List Token) → Option·map keyed (lookup.look key rows q) ≡ tokens.look (map keyed rows) (foldTokens q)
-  unfolding lookup.look tokens.look
+  unfolding lookBy
   look-fold [] q = refl
-  look-fold (r ∷ rows) q = better-fold q r (lookup.look key rows q) ∙ ap (tokens.better (foldTokens q) (keyed r)) (look-fold rows q)
+  look-fold (r ∷ rows) q = better-fold q r (lookup.look key rows q) ∙ ap (betterBy equalText keyOf (foldTokens q) (keyed r)) (look-fold rows q)
 
 pub look-domain-fold : (rows : List Row) (q : List Token) → Option·map pathRow (lookup.look byDomain rows q) ≡ tokens.look (map pathRow rows) (foldTokens q)
-unfolding partsOf
 look-domain-fold rows q = look-fold byDomain (λ r. foldTokens (r .path)) rows q
 
 pub look-path-fold : (rows : List Row) (q : List Token) → Option·map domainRow (lookup.look byPath rows q) ≡ tokens.look (map domainRow rows) (foldTokens q)
@@ -79,26 +79,26 @@ look-path-fold rows q = look-fold byPath (λ r. foldTokens (partsOf (r .domain))
 behind-fold : (k q : List Token) → foldTokens (drop (length k) q) ≡ drop (length (foldTokens k)) (foldTokens q)
 behind-fold k q = map-drop foldText (length k) q ∙ ap (λ (n : ℕ). drop n (foldTokens q)) (sym (length-map k foldText))
 
-settled-fold : (q : List Token) (o : Option Row) → Option·map foldTokens (settledBy q o) ≡ tokens.settled (foldTokens q) (Option·map pathRow o)
-unfolding settledBy tokens.settled
+settled-fold : (q : List Token) (o : Option Row) → Option·map foldTokens (settledBy byDomain byPath q o) ≡ settledBy keyOf valOf (foldTokens q) (Option·map pathRow o)
+unfolding settledBy
 settled-fold q none = refl
 settled-fold q (some r) =
     ap some
     (map-append foldText (r .path) (drop (length (partsOf (r .domain))) q)
     ∙ ap (λ (ts : List Tok). foldTokens (r .path) ++ ts) (behind-fold (partsOf (r .domain)) q))
 
-pub resolve-fold : (t : Table) (d : List ℕ) → Option·map foldTokens (lookup.resolve (t .toPath) d) ≡ tokens.resolve (tokensOf t) (foldTokens (partsOf d))
-unfolding lookup.resolve tokens.resolve
+pub resolve-fold : (t : Table) (d : List ℕ) → Option·map foldTokens (lookup.resolve (t .toPath) d) ≡ tokens.resolve (tokenTable t) (foldTokens (partsOf d))
+unfolding resolveBy
 resolve-fold t d =
     settled-fold (partsOf d) (lookup.look byDomain (t .toPath) (partsOf d))
-    ∙ ap (tokens.settled (foldTokens (partsOf d))) (look-domain-fold (t .toPath) (partsOf d))
+    ∙ ap (settledBy keyOf valOf (foldTokens (partsOf d))) (look-domain-fold (t .toPath) (partsOf d))
 
 -- ---- how a record goes out
 
-pub ext-fold : (l : List Token) → foldTokens (extension l) ≡ ext (foldTokens l)
-unfolding extension ext
-ext-fold [] = refl
-ext-fold (x ∷ l) = by-test (isDomainPart x) (λ e. rw (domain-part-fold x, e, ext-fold l)) (λ e. rw (domain-part-fold x, e))
+pub extension-fold : (l : List Token) → foldTokens (extension l) ≡ extension (foldTokens l)
+unfolding extension
+extension-fold [] = refl
+extension-fold (x ∷ l) = by-test (isDomainPart x) (λ e. rw (domain-part-fold x, e, extension-fold l)) (λ e. rw (domain-part-fold x, e))
 
 -- a domain with parts put in front of it
 extended-parts : (d : List ℕ) (x : List Token) → all isDomainPart x ≡ true → partsOf (extended d x) ≡ partsOf d ++ x
@@ -121,17 +121,17 @@ module _ (t : Table) (ls : List Token) where
     unfolding plan planBy planUnder
     plan-from = rw h (sym (length-append (r .path) (extension (drop (length (r .path)) ls))))
 
-    x-fold : foldTokens (extension (drop (length (r .path)) ls)) ≡ ext (drop (length (domainRow r .key)) (foldTokens ls))
-    x-fold = ext-fold (drop (length (r .path)) ls) ∙ ap ext (behind-fold (r .path) ls)
+    x-fold : foldTokens (extension (drop (length (r .path)) ls)) ≡ extension (drop (length (domainRow r .key)) (foldTokens ls))
+    x-fold = extension-fold (drop (length (r .path)) ls) ∙ ap extension (behind-fold (r .path) ls)
 
     -- the same by the row of tokens
-    pub plan-parts-fold : foldTokens (partsOf (plan t ls .domain)) ≡ domainRow r .val ++ ext (drop (length (domainRow r .key)) (foldTokens ls))
+    pub plan-parts-fold : foldTokens (partsOf (plan t ls .domain)) ≡ domainRow r .val ++ extension (drop (length (domainRow r .key)) (foldTokens ls))
     plan-parts-fold =
         ap foldTokens plan-parts
         ∙ map-append foldText (partsOf (r .domain)) (extension (drop (length (r .path)) ls))
         ∙ ap (λ (x : List Tok). domainRow r .val ++ x) x-fold
 
-    pub plan-from-fold : plan t ls .from ≡ length (domainRow r .key ++ ext (drop (length (domainRow r .key)) (foldTokens ls)))
+    pub plan-from-fold : plan t ls .from ≡ length (domainRow r .key ++ extension (drop (length (domainRow r .key)) (foldTokens ls)))
     plan-from-fold =
         plan-from
         ∙ sym (length-map (r .path ++ extension (drop (length (r .path)) ls)) foldText)
@@ -154,7 +154,7 @@ module _ (t : Table) (ls : List Token) where
 parts-same : (a b : List ℕ) → foldTokens (partsOf a) ≡ foldTokens (partsOf b) → sameText a b ≡ true
 parts-same a b e = same-of a b (sym (domain-parts (foldText a)) ∙ ap domainOf (parts-fold a ∙ e ∙ sym (parts-fold b)) ∙ domain-parts (foldText b))
 
-pub gateway-fold : (t : Table) (d : List ℕ) → (isGateway t d ≡ true) ↔ (foldTokens (partsOf d) ≡ tokensOf t .g)
+pub gateway-fold : (t : Table) (d : List ℕ) → (isGateway t d ≡ true) ↔ (foldTokens (partsOf d) ≡ tokenTable t .g)
 unfolding isGateway
 gateway-fold t d = (λ h. fold-parts (t .gateway .domain) d h, λ e. parts-same (t .gateway .domain) d (sym e))
 
@@ -301,7 +301,7 @@ module _ (r : Row) (h : isRow longestRowDomain r ≡ true) where
 -- ---- the whole
 
 module _ (t : Table) (f : table.Formed t) where
-  pub formed-fold : tokens.Formed (tokensOf t)
+  pub formed-fold : tokens.WellKept (tokenTable t)
   formed-fold =
       record {
         oneD = one-fold pathRow (t .toPath) sameDomain domain-swap domain-close (f .eachDomain);
@@ -312,11 +312,11 @@ module _ (t : Table) (f : table.Formed t) where
       }
 
   -- the rows are as few as before
-  pub few-fold : length (tokensOf t .D) + length (tokensOf t .R) ≤ mostRows
+  pub few-fold : length (tokenTable t .D) + length (tokenTable t .R) ≤ mostRows
   few-fold = omega (arith, f .few, length-map (t .toPath) pathRow, length-map (t .toDomain) domainRow)
 
   -- the tokens of an R row's path are fields still
-  pub path-fields : (r : tokens.Row) → List·Memᴰ r (tokensOf t .R) → areFields 0 (r .key) ≡ true
+  pub path-fields : (r : tokens.Row) → List·Memᴰ r (tokenTable t .R) → areFields 0 (r .key) ≡ true
   path-fields = each-fold domainRow (t .toDomain) (λ r. areFields 0 (r .key) ≡ true) (f .domains) (λ r h. fields-fold 0 (r .path) ∙ row-fields r h)
 
   -- the path of a D row has fields, eight at most: what adding levels to a record asks of them

@@ -30,7 +30,7 @@ use Rattle.table.proofs.Laws.Fields.{between-length}
 use Rattle.soundness.specs.Check.{AllFirst, AllSecond, IsAccepted, IsRefused, Judged, JudgedBy, checkLine, checkNumber, isSound, toldCheck}
 use Rattle.soundness.specs.Sound.{Sound}
 use Rattle.soundness.specs.Fits.{fits}
-use Rattle.soundness.specs.Folded.{domainRow, pathRow, tokensOf}
+use Rattle.soundness.specs.Folded.{domainRow, pathRow, tokenTable}
 use Rattle.soundness.specs.Tokens as tokens
 use Rattle.soundness.specs.Tokens.{Back, Checked, Tok, Tried, pad}
 use Rattle.soundness.specs.declared.answers as check
@@ -158,9 +158,9 @@ omitted-fold ts k e =
     no-length (getD ts k []) (omega (arith, length-fold (getD ts k []), ap (λ (s : Tok). length s) q))
 
 -- all candidates are what the check asks for
-pub all-checked : (t : Table) → AllFirst t → AllSecond t → Checked fits (tokensOf t)
+pub all-checked : (t : Table) → AllFirst t → AllSecond t → Checked fits (tokenTable t)
 all-checked t first second =
-    let T : tokens.Table = tokensOf t in
+    let T : tokens.Table = tokenTable t in
     record {
       plain = folded-each domainRow (λ r. 3 ≤ length (r .key) → Back T (pad (r .key))) (t .toDomain)
           (λ r m l. first r m .plain (omega (arith, length-map (r .path) foldText)));

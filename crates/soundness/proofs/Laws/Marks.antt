@@ -17,8 +17,8 @@ use Rattle.table.specs.Rows.{placesAt, rowAt, rowsAt, rowsFrom, tableAt}
 use Rattle.table.specs.Table as table
 use Rattle.table.specs.declared.line.Row.{Row as Places}
 use Rattle.table.specs.declared.load.Loaded.{Loaded}
-use Rattle.soundness.specs.Folded.{domainRow, foldTokens, pathRow, tokensOf}
-use Rattle.soundness.specs.Labels.{firstFree, fresh, marked, marks, numberOf}
+use Rattle.soundness.specs.Folded.{domainRow, foldTokens, pathRow, tokenTable}
+use Rattle.soundness.specs.Labels.{firstFree, fresh, labelCount, marked, marks, labelNumber}
 use Rattle.soundness.specs.Tokens.{Row, Tok}
 
 -- ---- folded
@@ -38,13 +38,13 @@ module _ (ts : List Tok) (t : Tok) (us : List Tok) (e : ts ≡ t ∷ us) (k : �
 
 -- the number of a token that stands from a up to b in a text
 pub number-at : (s : List ℕ) (a b n : ℕ) (ts : List Tok) (k : ℕ) → b ≡ a + n → take n (drop a s) ≡ getD ts k []
-    → numberOf (foldText (take (b - a) (drop a s))) ≡ numberOf (getD (foldTokens ts) k [])
+    → labelNumber (foldText (take (b - a) (drop a s))) ≡ labelNumber (getD (foldTokens ts) k [])
 unfolding foldText
 number-at s a b n ts k e h =
     let z : b - a ≡ n = omega arith in
-    ap (λ (m : ℕ). numberOf (foldText (take m (drop a s)))) z
-    ∙ ap (λ (t : Tok). numberOf (foldText t)) h
-    ∙ ap numberOf (sym (List·getD-map foldText ts k []))
+    ap (λ (m : ℕ). labelNumber (foldText (take m (drop a s)))) z
+    ∙ ap (λ (t : Tok). labelNumber (foldText t)) h
+    ∙ ap labelNumber (sym (List·getD-map foldText ts k []))
 
 -- ---- the rows that are left to mark
 
@@ -54,7 +54,7 @@ module _ (f : table.Row → Row) (k : ℕ) (s ns : List ℕ) (n : ℕ) (ms : Lis
   marks-all = rw (sub-zero n)
 
   pub marks-more : (i : ℕ) → i < n → marked k (map f (rowsFrom s ns i (n - i))) ms
-      ≡ marked k (map f (rowsFrom s ns (i + 1) (n - (i + 1)))) (set ms (numberOf (getD (f (rowAt s (placesAt ns i)) .key) k [])) true)
+      ≡ marked k (map f (rowsFrom s ns (i + 1) (n - (i + 1)))) (set ms (labelNumber (getD (f (rowAt s (placesAt ns i)) .key) k [])) true)
   unfolding rowsFrom marked
   marks-more i h = let z : n - i ≡ suc (n - (i + 1)) = omega arith in rw (z, add-one i)
 
@@ -81,13 +81,13 @@ module _ (ms : List Bool) (i : ℕ) where
 
 -- with all rows marked, the first free place is the row's fresh number
 pub free-fresh : (s ds rs : List ℕ) (t : Loaded) (p : Places) (levels parts : ℕ) → levels ≡ length (rowAt s p .path) → parts ≡ length (partsOf (rowAt s p .domain))
-    → firstFree (marked parts (map pathRow (rowsAt s ds (t .«to_path»))) (marked levels (map domainRow (rowsAt s rs (t .«to_domain»))) (replicate 514 false)))
-    ≡ fresh (tokensOf (tableAt s ds rs t)) (domainRow (rowAt s p))
+    → firstFree (marked parts (map pathRow (rowsAt s ds (t .«to_path»))) (marked levels (map domainRow (rowsAt s rs (t .«to_domain»))) (replicate labelCount false)))
+    ≡ fresh (tokenTable (tableAt s ds rs t)) (domainRow (rowAt s p))
 unfolding fresh marks tableAt
 free-fresh s ds rs t p levels parts e f =
     let r = rowAt s p in
     let D : List Row = map pathRow (rowsAt s ds (t .«to_path»)) in
     let R : List Row = map domainRow (rowsAt s rs (t .«to_domain»)) in
-    ap₂ (λ (m n : ℕ). firstFree (marked n D (marked m R (replicate 514 false))))
+    ap₂ (λ (m n : ℕ). firstFree (marked n D (marked m R (replicate labelCount false))))
     (e ∙ sym (length-map (r .path) foldText))
     (f ∙ sym (length-map (partsOf (r .domain)) foldText))

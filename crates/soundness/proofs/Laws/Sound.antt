@@ -15,14 +15,18 @@ use lib.Dec.{leb}
 use lib.ListN.{length, drop, getD, length-append, length-drop, replicate, length-replicate}
 use lib.Seq.{append-snoc, drop-append-le, drop-drop, drop-length, drop-append-seam, getD-append-add, getD-at, getD-drop}
 use Rattle.chars.specs.Lists.{all, nonEmpty}
+use Rattle.chars.specs.Case.{equalText}
 use Rattle.chars.specs.Domain.{isDomainPart}
 use Rattle.chars.proofs.Laws.Lists.{all-append, all-at, all-drop, all-weaken, and-both, and-left, and-right, by-test, true-not-false}
 use Rattle.chars.proofs.Laws.Seq.{absent-is, some-length}
 use Rattle.chars.proofs.Laws.Domain.{domain-empty, domain-part-length}
-use Rattle.soundness.specs.Tokens.{Agree, Back, BackBy, Checked, Comes, Formed, Fresh, Levels, Row, Supply, Table, Target, Tok, Tried}
-use Rattle.soundness.specs.Tokens.{begins, ext, fitsFrom, look, pad, resolve}
+use Rattle.soundness.specs.Tokens.{Agree, Back, BackBy, Checked, Comes, WellKept, Fresh, Levels, Row, Supply, Table, Target, Tok, Tried}
+use Rattle.soundness.specs.Tokens.{begins, fitsFrom, keyOf, look, pad, resolve, valOf}
 use Rattle.soundness.proofs.Laws.Agree.{agree-own, exact, exact-two, full-append, there-at}
-use Rattle.soundness.proofs.Laws.Look.{Answer, Best, begins-append, begins-cut, begins-length, begins-less, begins-more, cut, found, look-best, narrow, resolve-best, resolved, short, unpad}
+use Rattle.table_lookup.specs.Lookup.{extension}
+use Rattle.table_lookup.proofs.Laws.Begins.{begins-append, begins-length, begins-less, begins-more, narrow, resolved}
+use Rattle.table_lookup.proofs.Laws.Lookup.{extension-front, extension-parts}
+use Rattle.soundness.proofs.Laws.Look.{Answer, Best, begins-cut, best-found, best-settles, cut, equal-equality, found, short, unpad}
 
 -- ---- what goes in front of a row's domain
 
@@ -32,28 +36,18 @@ part-full t h = some-length t (domain-part-length t h .0)
 parts-full : (x : List Tok) → all isDomainPart x ≡ true → all nonEmpty x ≡ true
 parts-full x h = all-weaken isDomainPart nonEmpty part-full x h
 
-pub ext-parts : (l : List Tok) → all isDomainPart (ext l) ≡ true
-unfolding ext all
-ext-parts [] = refl
-ext-parts (t ∷ l) = by-test (isDomainPart t) (λ e. rw e (and-both e (ext-parts l))) (λ e. rw e)
-
-pub ext-front : (l : List Tok) → ext l ++ drop (length (ext l)) l ≡ l
-unfolding ext
-ext-front [] = refl
-ext-front (t ∷ l) = by-test (isDomainPart t) (λ e. rw e (ap (λ (s : List Tok). t ∷ s) (ext-front l))) (λ e. rw e)
-
-ext-stop : (t : Tok) (l : List Tok) → isDomainPart t ≡ false → ext (t ∷ l) ≡ []
-unfolding ext
-ext-stop t l h = rw h
+extension-stop : (t : Tok) (l : List Tok) → isDomainPart t ≡ false → extension (t ∷ l) ≡ []
+unfolding extension
+extension-stop t l h = rw h
 
 -- domain parts, and absent levels behind them
-ext-pad : (x : List Tok) (n : ℕ) → all isDomainPart x ≡ true → ext (x ++ replicate n []) ≡ x
-unfolding ext all
-ext-pad [] zero h = refl
-ext-pad [] (suc n) h = ext-stop [] (replicate n []) (domain-empty [] refl)
-ext-pad (t ∷ x) n h =
+extension-pad : (x : List Tok) (n : ℕ) → all isDomainPart x ≡ true → extension (x ++ replicate n []) ≡ x
+unfolding extension all
+extension-pad [] zero h = refl
+extension-pad [] (suc n) h = extension-stop [] (replicate n []) (domain-empty [] refl)
+extension-pad (t ∷ x) n h =
     rw (and-left (isDomainPart t) (all isDomainPart x) h)
-    (ap (λ (s : List Tok). t ∷ s) (ext-pad x n (and-right (isDomainPart t) (all isDomainPart x) h)))
+    (ap (λ (s : List Tok). t ∷ s) (extension-pad x n (and-right (isDomainPart t) (all isDomainPart x) h)))
 
 -- ---- the bounds of the levels
 
@@ -87,8 +81,8 @@ module _ (T : Table) where
   best-self r m =
       record {
         mem = m;
-        fits = subst (λ (s : List Tok). begins (r .key) s ≡ true) (append-nil (r .key)) (begins-append (r .key) []);
-        most = λ s n h. begins-length (s .key) (r .key) h;
+        fits = subst (λ (s : List Tok). begins (r .key) s ≡ true) (append-nil (r .key)) (begins-append equal-equality (r .key) []);
+        most = λ s n h. begins-length equalText (s .key) (r .key) h;
       }
 
   -- and with a fresh token behind
@@ -96,17 +90,17 @@ module _ (T : Table) where
   best-fresh r m f fresh t =
       record {
         mem = m;
-        fits = begins-append (r .key) (f ∷ t);
+        fits = begins-append equal-equality (r .key) (f ∷ t);
         most = λ s n h. short (s .key) (r .key) f t h (fresh .newR s n);
       }
 
 -- ---- a formed table
 
-module _ (T : Table) (formed : Formed T) where
+module _ (T : Table) (formed : WellKept T) where
   -- what a domain of no empty part resolves to
   settled-full : (q S : List Tok) → all nonEmpty q ≡ true → resolve T q ≡ some S → (2 ≤ length S) × (all nonEmpty (drop 3 S) ≡ true)
   settled-full q S h e =
-      let w = resolved T q S e in
+      let w = resolved equalText keyOf valOf (T .D) q S e in
       let b = w .0 in
       let path = formed .pathD b (w .1 .mem) in (
         omega (arith, path .two, length-append (b .val) (drop (length (b .key)) q), ap length (w .2)),
@@ -114,10 +108,10 @@ module _ (T : Table) (formed : Formed T) where
       )
 
   -- levels that a row is best for, and what goes in front of its domain
-  comes : (r : Row) (L t x : List Tok) → L ≡ r .key ++ t → ext t ≡ x → Best (T .R) L r → Back T L → Comes T r x L
+  comes : (r : Row) (L t x : List Tok) → L ≡ r .key ++ t → extension t ≡ x → Best (T .R) L r → Back T L → Comes T r x L
   comes r L t x e h best back =
-      subst (λ (s : List Tok). Comes T r s L) (ap (λ (l : List Tok). ext (drop (length (r .key)) l)) e ∙ ap ext (drop-append-seam (r .key) t) ∙ h)
-      (subst (BackBy T L) (look-best (T .R) L r (formed .oneR) best) back)
+      subst (λ (s : List Tok). Comes T r s L) (ap (λ (l : List Tok). extension (drop (length (r .key)) l)) e ∙ ap extension (drop-append-seam (r .key) t) ∙ h)
+      (subst (BackBy T L) (best-found (T .R) (formed .oneR) L r best) back)
 
   -- what a row is best for, of three levels or more, it is best for with absent levels behind
   best-pad : (r : Row) (y : List Tok) → 3 ≤ length y → Best (T .R) y r → Best (T .R) (pad y) r
@@ -126,8 +120,8 @@ module _ (T : Table) (formed : Formed T) where
       let e = replicate (8 - length y) [] in
       record {
         mem = best .mem;
-        fits = begins-more (r .key) y e (best .fits);
-        most = λ s m h. best .most s m (begins-less (s .key) y e h (unpad 3 (s .key) y (8 - length y) (formed .pathR s m .full) l h));
+        fits = begins-more equalText (r .key) y e (best .fits);
+        most = λ s m h. best .most s m (begins-less equalText (s .key) y e h (unpad 3 (s .key) y (8 - length y) (formed .pathR s m .full) l h));
       }
 
 -- x can stand in front of the domain of the row r: r is best for its path with x behind, and x are domain parts, at most up to the
@@ -150,13 +144,13 @@ under-front fits T r z y u =
     }
 
 -- levels that a row is best for have such an x
-pub under-levels : (fits : ℕ → Tok → Bool) (T : Table) (r : Row) (L : List Tok) → Levels fits L → Best (T .R) L r → Under fits T r (ext (drop (length (r .key)) L))
+pub under-levels : (fits : ℕ → Tok → Bool) (T : Table) (r : Row) (L : List Tok) → Levels fits L → Best (T .R) L r → Under fits T r (extension (drop (length (r .key)) L))
 under-levels fits T r L levels best =
     let k : ℕ = length (r .key) in
     let rest : List Tok = drop k L in
-    let x : List Tok = ext rest in
+    let x : List Tok = extension rest in
     let y : List Tok = drop (length x) rest in
-    let e : r .key ++ (x ++ y) ≡ L = ap (λ (s : List Tok). r .key ++ s) (ext-front rest) ∙ begins-cut (r .key) L (best .fits) in
+    let e : r .key ++ (x ++ y) ≡ L = ap (λ (s : List Tok). r .key ++ s) (extension-front rest) ∙ begins-cut (r .key) L (best .fits) in
     let all-within : (fitsFrom fits 0 (r .key) && fitsFrom fits (0 + k) (x ++ y)) ≡ true =
     sym (fits-append fits 0 (r .key) (x ++ y)) ∙ ap (fitsFrom fits 0) e ∙ levels .within in
     let z : 0 + k ≡ k = omega arith in
@@ -166,7 +160,7 @@ under-levels fits T r L levels best =
     ∙ and-right (fitsFrom fits 0 (r .key)) (fitsFrom fits (0 + k) (x ++ y)) all-within in
     record {
       best = narrow (r .key ++ x) y (subst (λ (s : List Tok). Best (T .R) s r) (sym (append-assoc (r .key) x y ∙ e)) best) (omega (arith, length-append (r .key) x));
-      parts = ext-parts rest;
+      parts = extension-parts rest;
       room = omega (arith, levels .eight, ap length e, length-append (r .key) (x ++ y), length-append x y);
       within = and-left (fitsFrom fits k x) (fitsFrom fits (k + length x) y) front-within;
     }
@@ -177,25 +171,25 @@ abbrev pub Owned : (ℕ → Tok → Bool) → Table → Type 0
 Owned fits T = (r : Row) (x : List Tok) → Under fits T r x → (r .val ++ x ≡ T .g → ⊥) × (resolve T (r .val ++ x) ≡ some (r .key ++ x))
 
 -- then all levels come back
-pub owned-back : (fits : ℕ → Tok → Bool) (T : Table) → Formed T → Owned fits T → (L : List Tok) → Levels fits L → Back T L
+pub owned-back : (fits : ℕ → Tok → Bool) (T : Table) → WellKept T → Owned fits T → (L : List Tok) → Levels fits L → Back T L
 owned-back fits T formed owned L levels = case (look (T .R) L) (found (T .R) L)
   where
     case : (o : Option Row) → Answer (T .R) L o → BackBy T L o
     case none f = tt
     case (some r) best =
         let rest : List Tok = drop (length (r .key)) L in
-        let x : List Tok = ext rest in
+        let x : List Tok = extension rest in
         let y : List Tok = drop (length x) rest in
         let back = owned r x (under-levels fits T r L levels best) in
         let whole : r .key ++ x ++ y ≡ L =
-        append-assoc (r .key) x y ∙ ap (λ (s : List Tok). r .key ++ s) (ext-front rest) ∙ begins-cut (r .key) L (best .fits) in
+        append-assoc (r .key) x y ∙ ap (λ (s : List Tok). r .key ++ s) (extension-front rest) ∙ begins-cut (r .key) L (best .fits) in
         let full : all nonEmpty (drop 4 (r .key)) ≡ true =
         ap (all nonEmpty) (sym (drop-drop 1 3 (r .key))) ∙ all-drop nonEmpty 1 (drop 3 (r .key)) (formed .pathR r (best .mem) .full) in
         record {
           away = back .0;
           by = r .key ++ x;
           settles = back .1;
-          agrees = subst (Agree 4 (r .key ++ x) (length (r .key ++ x))) whole (agree-own 4 (r .key ++ x) y (full-append 4 (r .key) x full (parts-full x (ext-parts rest))));
+          agrees = subst (Agree 4 (r .key ++ x) (length (r .key ++ x))) whole (agree-own 4 (r .key ++ x) y (full-append 4 (r .key) x full (parts-full x (extension-parts rest))));
         }
 
 -- what comes back with nothing in front of the row's domain
@@ -212,13 +206,13 @@ alone T r L c = (
 abbrev pub Good : Table → Row → Type 0
 Good T r = (r .val ≡ T .g → ⊥) × (resolve T (r .val) ≡ some (r .key))
 
-module _ (fits : ℕ → Tok → Bool) (T : Table) (formed : Formed T) (checked : Checked fits T) where
+module _ (fits : ℕ → Tok → Bool) (T : Table) (formed : WellKept T) (checked : Checked fits T) where
   module _ (r : Row) (m : List·Memᴰ r (T .R)) where
     plain-comes : 3 ≤ length (r .key) → Comes T r [] (pad (r .key))
     unfolding pad all
     plain-comes l =
         let n : ℕ = 8 - length (r .key) in
-        comes T formed r (pad (r .key)) (replicate n []) [] refl (ext-pad [] n refl) (best-pad T formed r (r .key) l (best-self T r m)) (checked .plain r m l)
+        comes T formed r (pad (r .key)) (replicate n []) [] refl (extension-pad [] n refl) (best-pad T formed r (r .key) l (best-self T r m)) (checked .plain r m l)
 
     -- a level from PRMD on is there
     good-plain : 3 ≤ length (r .key) → (k : ℕ) → 2 ≤ k → nonEmpty (getD (r .key) k []) ≡ true → Good T r
@@ -235,7 +229,7 @@ module _ (fits : ℕ → Tok → Bool) (T : Table) (formed : Formed T) (checked 
     unfolding pad behind
     tried-levels f = append-snoc (r .key) f (replicate (behind f) [])
 
-    tried-comes : (t : Bool) (w : Tried T r t) (x : List Tok) → ext (w .f ∷ replicate (behind (w .f)) []) ≡ x → Comes T r x (pad (r .key ++ w .f ∷ []))
+    tried-comes : (t : Bool) (w : Tried T r t) (x : List Tok) → extension (w .f ∷ replicate (behind (w .f)) []) ≡ x → Comes T r x (pad (r .key ++ w .f ∷ []))
     tried-comes t w x h =
         comes T formed r (pad (r .key ++ w .f ∷ [])) (w .f ∷ replicate (behind (w .f)) []) x (tried-levels (w .f)) h
         (subst (λ (L : List Tok). Best (T .R) L r) (sym (tried-levels (w .f))) (best-fresh T r m (w .f) (w .fresh) (replicate (behind (w .f)) [])))
@@ -245,7 +239,7 @@ module _ (fits : ℕ → Tok → Bool) (T : Table) (formed : Formed T) (checked 
     good-two l =
         let w = checked .two r m l in
         let t : List Tok = replicate (behind (w .f)) [] in
-        let a = alone T r (pad (r .key ++ w .f ∷ [])) (tried-comes false w [] (ext-stop (w .f) t (w .part))) in
+        let a = alone T r (pad (r .key ++ w .f ∷ [])) (tried-comes false w [] (extension-stop (w .f) t (w .part))) in
         let f = settled-full T formed (r .val) (a .1 .0) (parts-full (r .val) (formed .parts r m)) (a .1 .1) in
         let g : Agree 4 (a .1 .0) (length (r .key)) (r .key ++ w .f ∷ t) = subst (Agree 4 (a .1 .0) (length (r .key))) (tried-levels (w .f)) (a .1 .2) in
         (a .0, a .1 .1 ∙ ap some (exact-two (a .1 .0) (r .key) (w .f) t l (f .0) (w .fresh .there) g))
@@ -256,12 +250,12 @@ module _ (fits : ℕ → Tok → Bool) (T : Table) (formed : Formed T) (checked 
         let w = checked .bare r m l e in
         let d : List Tok = w .f ∷ [] in
         let part : all isDomainPart d ≡ true = and-both (w .part) refl in
-        let c = tried-comes true w d (ext-pad d (behind (w .f)) part) in
+        let c = tried-comes true w d (extension-pad d (behind (w .f)) part) in
         let q : all nonEmpty (r .val ++ d) ≡ true = all-append nonEmpty (r .val) d ∙ and-both (parts-full (r .val) (formed .parts r m)) (parts-full d part) in
-        let b = resolved T (r .val ++ d) (c .by) (c .settles) in
+        let b = resolved equalText keyOf valOf (T .D) (r .val ++ d) (c .by) (c .settles) in
         let key : List Tok = b .0 .key in
         let near : length key ≤ length (r .val) = short key (r .val) (w .f) [] (b .1 .fits) (w .fresh .newD (b .0) (b .1 .mem)) in
-        let own = resolve-best T (r .val) (b .0) formed (narrow (r .val) d (b .1) near) in
+        let own = best-settles (T .D) (formed .oneD) (r .val) (b .0) (narrow (r .val) d (b .1) near) in
         let full : all nonEmpty (drop 3 (r .key ++ d)) ≡ true = full-append 3 (r .key) d (formed .pathR r m .full) (parts-full d part) in
         let there : nonEmpty (getD (r .key ++ d) 3 []) ≡ true = ap nonEmpty (getD-at (r .key) (w .f) [] [] 3 l) ∙ part-full (w .f) (w .part) in
         let is : c .by ≡ r .key ++ d =
@@ -292,7 +286,7 @@ module _ (fits : ℕ → Tok → Bool) (T : Table) (formed : Formed T) (checked 
       let n : ℕ = 8 - length (r .key ++ z) in
       let path = formed .pathR r (u .best .mem) in
       let three : 3 ≤ length (r .key ++ z) = omega (arith, path .two, length-append (r .key) z) in
-      comes T formed r (pad (r .key ++ z)) (z ++ replicate n []) z (append-assoc (r .key) z (replicate n [])) (ext-pad z n (u .parts))
+      comes T formed r (pad (r .key ++ z)) (z ++ replicate n []) z (append-assoc (r .key) z (replicate n [])) (extension-pad z n (u .parts))
       (best-pad T formed r (r .key ++ z) three (u .best))
       (checked .second r (u .best .mem) z target l (u .room) (u .within))
 
@@ -311,7 +305,7 @@ module _ (fits : ℕ → Tok → Bool) (T : Table) (formed : Formed T) (checked 
       let is : c .by ≡ r .key ++ z =
       exact (c .by) (r .key ++ z) (settled-full T formed (r .val ++ z) (c .by) q (c .settles) .1) (full-append 3 (r .key) z (formed .pathR r m .full) zs)
       (there-at (r .key ++ z) (length (r .key) + 0) 2 there (omega (arith, formed .pathR r m .two))) (c .agrees) in
-      let own-key : resolve T (b .key) ≡ some (b .val ++ drop (length (b .key)) (b .key)) = resolve-best T (b .key) b formed self in
+      let own-key : resolve T (b .key) ≡ some (b .val ++ drop (length (b .key)) (b .key)) = best-settles (T .D) (formed .oneD) (b .key) b self in
       Option·some-injective (b .val) (r .key ++ z)
       (ap some (sym (append-nil (b .val)) ∙ ap (λ (s : List Tok). b .val ++ s) (sym (drop-length (b .key))))
       ∙ sym own-key
@@ -325,8 +319,8 @@ module _ (fits : ℕ → Tok → Bool) (T : Table) (formed : Formed T) (checked 
     near l =
         let d : List Tok = drop (length (b .key)) (r .val) in
         let k : b .val ++ d ≡ r .key =
-        Option·some-injective (b .val ++ d) (r .key) (sym (resolve-best T (r .val) b formed (narrow (r .val) x best l)) ∙ good r (u .best .mem) .1) in
-        resolve-best T (r .val ++ x) b formed best
+        Option·some-injective (b .val ++ d) (r .key) (sym (best-settles (T .D) (formed .oneD) (r .val) b (narrow (r .val) x best l)) ∙ good r (u .best .mem) .1) in
+        best-settles (T .D) (formed .oneD) (r .val ++ x) b best
         ∙ ap some
         (ap (λ (s : List Tok). b .val ++ s) (drop-append-le (length (b .key)) (r .val) x l) ∙ sym (append-assoc (b .val) d x) ∙ ap (λ (s : List Tok). s ++ x) k)
 
@@ -339,7 +333,7 @@ module _ (fits : ℕ → Tok → Bool) (T : Table) (formed : Formed T) (checked 
         let self : Best (T .D) (b .key) b = narrow (b .key) y (subst (λ (s : List Tok). Best (T .D) s b) (sym e) best) (omega arith) in
         let k : b .val ≡ r .key ++ w .0 =
         between r (w .0) (under-front fits T r (w .0) y (subst (Under fits T r) (sym (w .2)) u)) (omega (arith, length-append (r .val) (w .0), ap length (w .1))) b self (w .1) in
-        resolve-best T (r .val ++ x) b formed best
+        best-settles (T .D) (formed .oneD) (r .val ++ x) b best
         ∙ ap some (ap (λ (s : List Tok). s ++ y) k ∙ append-assoc (r .key) (w .0) y ∙ ap (λ (s : List Tok). r .key ++ s) (w .2))
 
   own-resolves : (r : Row) (x : List Tok) → Under fits T r x → resolve T (r .val ++ x) ≡ some (r .key ++ x)
@@ -347,8 +341,8 @@ module _ (fits : ℕ → Tok → Bool) (T : Table) (formed : Formed T) (checked 
     where
       case : (o : Option Row) → Answer (T .D) (r .val ++ x) o → resolve T (r .val ++ x) ≡ some (r .key ++ x)
       case none f =
-          let w = resolved T (r .val) (r .key) (good r (u .best .mem) .1) in
-          true-not-false (begins (w .0 .key) (r .val ++ x)) (begins-more (w .0 .key) (r .val) x (w .1 .fits)) (f (w .0) (w .1 .mem))
+          let w = resolved equalText keyOf valOf (T .D) (r .val) (r .key) (good r (u .best .mem) .1) in
+          true-not-false (begins (w .0 .key) (r .val ++ x)) (begins-more equalText (w .0 .key) (r .val) x (w .1 .fits)) (f (w .0) (w .1 .mem))
       case (some b) best =
           by-test (leb (length (b .key)) (length (r .val)))
           (λ e. near r x u b best (leb-true (length (b .key)) (length (r .val)) e))
@@ -364,7 +358,7 @@ module _ (fits : ℕ → Tok → Bool) (T : Table) (formed : Formed T) (checked 
 
 -- ---- the other way: the candidates are levels, so they come back where all do
 
-pub checked-back : (fits : ℕ → Tok → Bool) (T : Table) → Formed T → ((L : List Tok) → Levels fits L → Back T L) → Supply fits T → Checked fits T
+pub checked-back : (fits : ℕ → Tok → Bool) (T : Table) → WellKept T → ((L : List Tok) → Levels fits L → Back T L) → Supply fits T → Checked fits T
 unfolding fitsFrom
 checked-back fits T formed back supply =
     record {
@@ -387,5 +381,5 @@ checked-back fits T formed back supply =
     with-one r m f h l = behind-path r m (f ∷ []) (omega arith) (and-both h refl)
 
 -- A table is accepted exactly when its rows' domains are owned so: what the check finds out, without its candidates.
-pub accepted-exactly : (fits : ℕ → Tok → Bool) (T : Table) → Formed T → Supply fits T → (Checked fits T → Owned fits T) × (Owned fits T → Checked fits T)
+pub accepted-exactly : (fits : ℕ → Tok → Bool) (T : Table) → WellKept T → Supply fits T → (Checked fits T → Owned fits T) × (Owned fits T → Checked fits T)
 accepted-exactly fits T formed supply = (λ c. own fits T formed c, λ o. checked-back fits T formed (owned-back fits T formed o) supply)

@@ -14,10 +14,11 @@ use lib.ListN.{length, take}
 use Rattle.chars.specs.Write.{front}
 use Rattle.chars.proofs.Laws.Lists.{by-test, true-not-false}
 use Rattle.chars.proofs.Laws.Write.{length-front, take-front}
+use Rattle.mailaddr.specs.Shape.{longestAddress}
 use Rattle.oraddr.specs.Add.{Outcome, told}
 use Rattle.oraddr.specs.Canonical.{canonicalRecord}
 use Rattle.oraddr.specs.Same.{sameRecord}
-use Rattle.oraddr.specs.View.{emptyRecord, view}
+use Rattle.oraddr.specs.View.{emptyRecord}
 use Rattle.oraddr.specs.declared.add.Addition.{Addition}
 use Rattle.oraddr.specs.declared.record.Record.{Record}
 use Rattle.table.specs.Formed.{Formed}
@@ -75,7 +76,7 @@ module _ (t : Table) (s : List ℕ) (r : Record) (x : ToRecord) (e : toldRecord 
 
 module _ (t : Table) (f : Formed t) (r : Record) where
   -- the text that a record goes out as is short
-  text-short : (s : List ℕ) → textOf t r ≡ some s → length s ≤ 2048
+  text-short : (s : List ℕ) → textOf t r ≡ some s → length s ≤ longestAddress
   unfolding textOf
   text-short s e =
       by-test (canonicalRecord r)

@@ -18,10 +18,10 @@ use Rattle.chars.proofs.Laws.Case.{equal-path}
 use Rattle.chars.proofs.Laws.Parts.{split-end, split-next, split-some}
 use Rattle.chars.proofs.Laws.Seq.{some-length}
 use Rattle.table.specs.Table.{Row, Table, Token}
-use Rattle.table.specs.Lines.{Line, Loaded, badGateway, badRow, gatewayTable, hasTag, isGatewayLine, isNewRow, isPath, isRow, linesOf, loadedFrom, longestGatewayDomain, longestRowDomain, longestTable, malformed, mostRows, readLines, readRows, rowOf, sameDomain, samePath, tableLines, withRow}
+use Rattle.table.specs.Lines.{Line, TableOutcome, badGateway, badRow, gatewayTable, hasTag, isGatewayLine, isNewRow, isPath, isRow, linesOf, loadedFrom, longestGatewayDomain, longestRowDomain, longestTable, malformed, mostRows, readLines, readRows, rowOf, sameDomain, samePath, tableLines, withRow}
 use Rattle.table.specs.Keys.{keyText}
 use Rattle.table.specs.Load.{Adding, Joined, Kept, Loading, addedIf, bareTable, lineAt, linesFrom, loadAnswer, rowsSize}
-use Rattle.table.specs.Marks.{Placed, markOf, putMarked}
+use Rattle.table.specs.Marks.{PutIfNew, markOf, putMarked}
 use Rattle.table.specs.Rows.{RowFound, RowInside, between, rowAt, rowsAt, rowsFrom, tableAt}
 use Rattle.table.specs.declared.line as line
 use Rattle.table.specs.declared.load as load
@@ -141,7 +141,7 @@ module _ (s ds rs : List ℕ) (t : load.Loaded.Loaded) (from end : ℕ) where
               };
         }
 
-    pub adding-domain : length ds ≡ rowsSize → RowFound s from end 68 longestRowDomain p → (new : Bool) {ms : List ℕ} → Placed Domain s ds (t .«to_path») p new ms
+    pub adding-domain : length ds ≡ rowsSize → RowFound s from end 68 longestRowDomain p → (new : Bool) {ms : List ℕ} → PutIfNew Domain s ds (t .«to_path») p new ms
         → Adding s (tableAt s ds rs t) from end (addedIf new (record { gateway = t .gateway; «to_path» = t .«to_path» + 1; «to_domain» = t .«to_domain» })) ms rs
     adding-domain l f true q = rw (q .rows refl) (join-domain l f (bad-domain h f ∙ ap not (sym (q .answers))))
     adding-domain l f false q = bad-domain h f ∙ ap not (sym (q .answers))
@@ -169,7 +169,7 @@ module _ (s ds rs : List ℕ) (t : load.Loaded.Loaded) (from end : ℕ) where
                 };
           }
 
-      pub adding-path : length rs ≡ rowsSize → RowFound s from end 82 longestRowDomain p → (new : Bool) {ms : List ℕ} → Placed Path s rs (t .«to_domain») p new ms
+      pub adding-path : length rs ≡ rowsSize → RowFound s from end 82 longestRowDomain p → (new : Bool) {ms : List ℕ} → PutIfNew Path s rs (t .«to_domain») p new ms
           → Adding s (tableAt s ds rs t) from end (addedIf new (record { gateway = t .gateway; «to_path» = t .«to_path»; «to_domain» = t .«to_domain» + 1 })) ds ms
       adding-path l f true q = rw (q .rows refl) (join-path l f (bad-path h none f ∙ ap not (sym (q .answers))))
       adding-path l f false q = bad-path h none f ∙ ap not (sym (q .answers))
@@ -215,7 +215,7 @@ unfolding badRow
 read-unfinished n t p ls = read-bad n t (record { text = p; ended = false }) ls refl
 
 -- the answer that a line is bad
-pub refused : {s ds rs : List ℕ} {l : Loaded} {n : ℕ} → l ≡ malformed n → Loading s l (Malformed n) ds rs
+pub refused : {s ds rs : List ℕ} {l : TableOutcome} {n : ℕ} → l ≡ malformed n → Loading s l (Malformed n) ds rs
 unfolding loadAnswer
 refused e = record { answers = sym e; kept = tt }
 

@@ -17,6 +17,7 @@ use Rattle.chars.proofs.Laws.Seq.{some-test}
 use Rattle.table.specs.Table.{Token}
 use Rattle.table.specs.Rows.{Inside, between, fieldsAt, placesAt, rowAt}
 use Rattle.table_lookup.specs.Levels.{LevelFound, Levelled}
+use Rattle.table_lookup.specs.Begins.{beginsBy}
 use Rattle.table_lookup.specs.Lookup.{begins, byPath}
 use Rattle.table_lookup.specs.Looked.{Ended, KindInside, Looked, isReached, tokensFrom}
 use Rattle.table_lookup.specs.declared.level.LevelKind.{LevelKind}
@@ -72,12 +73,12 @@ ended-less m h l =
 -- how many levels a path has, with those that come before it, if it begins the levels from k on
 module _ (s ends : List ℕ) (k left : ℕ) (fs : List Token) where
   pub path-none : fs ≡ [] → k ≡ cond (begins fs (tokensFrom s ends k left)) (k + length fs) 0
-  unfolding begins
+  unfolding beginsBy
   path-none e = rw (e, add-zero k)
 
   module _ (f : Token) (gs : List Token) (e : fs ≡ f ∷ gs) where
     pub path-over : left ≡ 0 → 0 ≡ cond (begins fs (tokensFrom s ends k left)) (k + length fs) 0
-    unfolding begins tokensFrom
+    unfolding beginsBy tokensFrom
     path-over h = rw (e, h)
 
     more : (left ≡ 0 → ⊥) → tokensFrom s ends k left ≡ between s (getD ends k 0) (getD ends (k + 1) 0) ∷ tokensFrom s ends (k + 1) (left - 1)
@@ -86,12 +87,12 @@ module _ (s ends : List ℕ) (k left : ℕ) (fs : List Token) where
 
     pub path-stop : (left ≡ 0 → ⊥) → sameText f (between s (getD ends k 0) (getD ends (k + 1) 0)) ≡ false
         → 0 ≡ cond (begins fs (tokensFrom s ends k left)) (k + length fs) 0
-    unfolding begins
+    unfolding beginsBy
     path-stop h n = rw (e, more h, n)
 
     pub path-next : (left ≡ 0 → ⊥) → sameText f (between s (getD ends k 0) (getD ends (k + 1) 0)) ≡ true
         → cond (begins gs (tokensFrom s ends (k + 1) (left - 1))) (k + 1 + length gs) 0 ≡ cond (begins fs (tokensFrom s ends k left)) (k + length fs) 0
-    unfolding begins
+    unfolding beginsBy
     path-next h n = let z : k + 1 + length gs ≡ k + suc (length gs) = omega arith in rw (e, more h, n, z)
 
 -- ---- the loop over the rows

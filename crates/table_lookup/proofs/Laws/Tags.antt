@@ -21,11 +21,12 @@ use Rattle.chars.proofs.Laws.Parts.{join-fold, join-split}
 use Rattle.chars.proofs.Laws.Seq.{some-test}
 use Rattle.table.specs.Table.{Token}
 use Rattle.table.specs.Rows.{between, fieldsAt}
+use Rattle.table_lookup.specs.Begins.{beginsBy}
 use Rattle.table_lookup.specs.Lookup.{begins}
 use Rattle.table_lookup.specs.Looked.{Ended, tokensFrom}
 use Rattle.table_lookup.specs.Tags.{Tagged, endByte, tagBy, tagOf}
 use Rattle.table.proofs.Laws.Fields.{between-length, fields-in, fields-some}
-use Rattle.table_lookup.proofs.Laws.Lookup.{begins-length}
+use Rattle.table_lookup.proofs.Laws.Begins.{begins-length}
 use Rattle.table_lookup.proofs.Laws.Paths.{ended-less}
 use Rattle.table.proofs.Laws.Rows.{tab-other}
 use Rattle.table_lookup.proofs.Laws.Extension.{tokens-length}
@@ -120,7 +121,7 @@ module _ (s ends : List ℕ) where
 
 -- a path that begins the levels from i on is as many of them, folded
 begun-fold : (s ends : List ℕ) (i n : ℕ) (fs : List Token) → begins fs (tokensFrom s ends i n) ≡ true → map foldText fs ≡ map foldText (tokensFrom s ends i (length fs))
-unfolding begins tokensFrom
+unfolding beginsBy tokensFrom
 begun-fold s ends i n [] h = refl
 begun-fold s ends i zero (f ∷ fs) h = true-not-false true refl (sym h)
 begun-fold s ends i (suc n) (f ∷ fs) h =
@@ -148,7 +149,7 @@ untagged s ends tags text at end l g a =
     let tag = tagOf (between text at end) in
     by-test (begins fs (tokensFrom s ends 0 8))
     (λ h. let k = length fs - 1 in
-    let most : length fs ≤ 8 = rw (tokens-length s ends 0 8) at (begins-length fs (tokensFrom s ends 0 8) h) in
+    let most : length fs ≤ 8 = rw (tokens-length s ends 0 8) at (begins-length sameText fs (tokensFrom s ends 0 8) h) in
     let least : 0 < length fs = ltb-true 0 (length fs) (some-test fs ∙ fields-some text at end l) in
     let e : length fs ≡ k + 1 = omega arith in
     let same : tag ≡ getD tags k 0 = begun-tag s ends text at end l h ∙ ap (λ (n : ℕ). tagOf (join 9 (tokensFrom s ends 0 n))) e ∙ sym (g .each k (omega arith)) in

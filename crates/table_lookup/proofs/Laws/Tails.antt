@@ -22,13 +22,15 @@ use Rattle.mailaddr.specs.Domain.{domainOf, inFront, partsOf}
 use Rattle.mailaddr.proofs.Laws.Domain.{domain-fold, domain-front, domain-parts, parts-fold, parts-front, parts-some}
 use Rattle.table.specs.Table.{Token}
 use Rattle.table.specs.Rows.{Inside, between, placesAt, rowAt}
+use Rattle.table_lookup.specs.Begins.{beginsBy}
 use Rattle.table_lookup.specs.Lookup.{begins, byDomain}
 use Rattle.table_lookup.specs.Looked.{Looked}
 use Rattle.table.specs.declared.line.Row.{Row}
 use Rattle.table_lookup.specs.declared.lookup.Found.{Found}
 use Rattle.table_lookup.specs.declared.lookup.Found.the-variants.{At, Nowhere}
 use Rattle.table.proofs.Laws.Fields.{between-length}
-use Rattle.table_lookup.proofs.Laws.Lookup.{begins-both, found-begins, noLonger}
+use Rattle.table_lookup.proofs.Laws.Begins.{begins-both}
+use Rattle.table_lookup.proofs.Laws.Lookup.{found-begins, noLonger, same-equality}
 
 -- ---- two texts with a dot between them
 
@@ -63,13 +65,13 @@ domain-append p (x ∷ y ∷ r) h k =
 -- ---- parts that are equal case aside
 
 fold-begins : (ps qs r : List Token) → map foldText ps ≡ map foldText qs → begins ps (qs ++ r) ≡ true
-unfolding begins
+unfolding beginsBy
 fold-begins [] qs r h = refl
 fold-begins (p ∷ ps) [] r h = let z : _≡_ {A = ℕ} 0 1 = cc in absurd (omega arith)
 fold-begins (p ∷ ps) (q ∷ qs) r h = and-both (same-of p q (cc)) (fold-begins ps qs r (cc))
 
 begins-cut : (ps qs : List Token) → begins ps qs ≡ true → (p : List Token) × (r : List Token) × (qs ≡ p ++ r) × (map foldText ps ≡ map foldText p)
-unfolding begins
+unfolding beginsBy
 begins-cut [] qs h = ([], qs, refl, refl)
 begins-cut (p ∷ ps) [] h = true-not-false true refl (sym h)
 begins-cut (p ∷ ps) (q ∷ qs) h =
@@ -168,9 +170,9 @@ tail-longer a b q h k =
     let m : ℕ = length (partsOf a) in
     let n : ℕ = length (partsOf b) in
     bool-same (leb m n) (leb (length a) (length b))
-    (λ e. le-leb (length a) (length b) (tail-place a b (begins-both (partsOf a) (partsOf b) q h k (leb-true m n e)) .0))
+    (λ e. le-leb (length a) (length b) (tail-place a b (begins-both same-equality (partsOf a) (partsOf b) q h k (leb-true m n e)) .0))
     (λ e. by-test (leb m n) (λ f. f) (λ f.
-    let g = tail-place b a (begins-both (partsOf b) (partsOf a) q k h (omega (arith, leb-false m n f))) in
+    let g = tail-place b a (begins-both same-equality (partsOf b) (partsOf a) q k h (omega (arith, leb-false m n f))) in
     let z : length a - length b ≡ 0 = omega (arith, leb-true (length a) (length b) e) in
     let y : sameText a b ≡ true = rw z at (g .1) in
     absurd (omega (arith, leb-false m n f, length-map (partsOf a) foldText, length-map (partsOf b) foldText, ap length (fold-parts a b y)))))

@@ -24,7 +24,8 @@ use Rattle.oraddr.specs.declared.add.Addition.{Addition}
 use Rattle.oraddr.specs.declared.record.Record.{Record}
 use Rattle.table.specs.Table.{Row, Token}
 use Rattle.table.specs.Rows.{Inside, placesAt, rowAt, rowsAt}
-use Rattle.table_lookup.specs.Lookup.{begins, byDomain, resolve, settledBy}
+use Rattle.table_lookup.specs.Begins.{resolveBy, settledBy}
+use Rattle.table_lookup.specs.Lookup.{begins, byDomain, byPath}
 use Rattle.table_lookup.specs.Looked.{Looked, foundRow}
 use Rattle.table_settle.specs.Settle.{addLevel, addLevels, answerOf, begun, leftParts, noRow, pastBound, pastUnits, settledAs, settledFrom, settlementAnswer, settling}
 use Rattle.table_lookup.specs.declared.lookup.Found.the-variants.{At, Nowhere}
@@ -165,7 +166,6 @@ answer-is s a e = ap (λ (x : Settled). answerOf x (s .«record»)) e
 -- a row that was found
 module _ (s ns d : List ℕ) (n : ℕ) (p : Inside s ns n) (i : ℕ) (h : Looked byDomain s ns n (partsOf d) (At i)) where
   found-tail : begins (partsOf (rowAt s (placesAt ns i) .domain)) (partsOf d) ≡ true
-  unfolding partsOf
   found-tail = found-begins byDomain s ns (partsOf d) n i h
 
   size : length (rowAt s (placesAt ns i) .domain) ≡ placesAt ns i .«domain_end» - placesAt ns i .domain
@@ -178,13 +178,13 @@ module _ (s ns d : List ℕ) (n : ℕ) (p : Inside s ns n) (i : ℕ) (h : Looked
   found-fits = omega (arith, size, tail-place (rowAt s (placesAt ns i) .domain) d found-tail .0)
 
   pub settling-row : settledFrom (some (rowAt s (placesAt ns i) .path ++ leftParts d (length d - (placesAt ns i .«domain_end» - placesAt ns i .domain)))) ≡ settling (rowsAt s ns n) d
-  unfolding settling resolve settledBy foundRow
+  unfolding settling resolveBy settledBy foundRow
   settling-row =
       let r = rowAt s (placesAt ns i) in
       ap (λ (m : ℕ). settledFrom (some (r .path ++ leftParts d (length d - m)))) (sym size)
       ∙ ap (λ (ts : List Token). settledFrom (some (r .path ++ ts))) (sym (left-drop (r .domain) d found-tail))
-      ∙ sym (ap (λ (o : Option Row). settledFrom (settledBy (partsOf d) o)) (h .row))
+      ∙ sym (ap (λ (o : Option Row). settledFrom (settledBy byDomain byPath (partsOf d) o)) (h .row))
 
 pub settling-none : (s ns d : List ℕ) (n : ℕ) → Looked byDomain s ns n (partsOf d) Nowhere → noRow ≡ settling (rowsAt s ns n) d
-unfolding settling resolve settledBy foundRow settledFrom
-settling-none s ns d n h = sym (ap (λ (o : Option Row). settledFrom (settledBy (partsOf d) o)) (h .row))
+unfolding settling resolveBy settledBy foundRow settledFrom
+settling-none s ns d n h = sym (ap (λ (o : Option Row). settledFrom (settledBy byDomain byPath (partsOf d) o)) (h .row))

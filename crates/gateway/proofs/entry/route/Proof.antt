@@ -1,7 +1,7 @@
 -- `gateway::entry::route` meets its contract.
 -- Assumes nothing.
 use mathlib.Core.Path.{subst}
-use Rattle.table.specs.Lines.{Loaded}
+use Rattle.table.specs.Lines.{TableOutcome}
 use Rattle.router.specs.Run.{Routing}
 use borrow.Author.Needs.{needs}
 use Rattle.gateway.proofs.entry.route.Statement.{statement}
@@ -32,7 +32,7 @@ returns : tie.Need-returns
 returns c =
     let a = c .before .before .before .before .before .before .before .before .before .before .before .before .before .before .args in
     let r = c .before .before .route in
-    subst (λ (l : Loaded). Routing l (a .over) (a .input .now) (a .last) (a .out .now) (r .result) (r .last .1 .1 .1 .1 .1 .1 .1 .0)) (c .before .before .before .before .before .before .before .before .open .ensures .answers) (r .ensures)
+    subst (λ (l : TableOutcome). Routing l (a .over) (a .input .now) (a .last) (a .out .now) (r .result) (r .last .1 .1 .1 .1 .1 .1 .1 .0)) (c .before .before .before .before .before .before .before .before .open .ensures .answers) (r .ensures)
 
 pub route-spec : {M : Type 1} → statement M
 route-spec =

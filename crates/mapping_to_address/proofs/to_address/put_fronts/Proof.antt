@@ -8,7 +8,7 @@ use lib.ListN.{length, take, drop, getD, length-append}
 use Rattle.chars.proofs.Laws.Write.{wrote-length, wrote-one, wrote-then}
 use Rattle.ortext_write.proofs.Laws.Left.{Left, left-all, left-more, left-none, left-room}
 use Rattle.table.specs.Rows.{between}
-use Rattle.table_lookup.specs.Looked.{tokensFrom, tokensOf}
+use Rattle.table_lookup.specs.Looked.{tokensFrom, levelTokens}
 use Rattle.mapping.specs.Flat.{fronts}
 use Rattle.mapping.proofs.Laws.Flat.{fronts-back, fronts-end, tokens-some}
 use Rattle.mapping_to_address.proofs.to_address.put_fronts.Statement.{statement}
@@ -16,7 +16,7 @@ use Rattle.mapping_to_address.proofs.to_address.put_fronts.Tie as tie
 
 abbrev Inv-loop : tie.InvT-loop
 Inv-loop dst₀ at flat ends k n next₀ i₀ dst next i =
-    (k ≤ i) × (i ≤ k + n) × Left dst₀ at (fronts (take n (drop k (tokensOf flat ends)))) dst next (fronts (tokensFrom flat ends k (i - k)))
+    (k ≤ i) × (i ≤ k + n) × Left dst₀ at (fronts (take n (drop k (levelTokens flat ends)))) dst next (fronts (tokensFrom flat ends k (i - k)))
 
 abbrev μ-loop : tie.MeasureT-loop
 μ-loop dst₀ at flat ends k n next₀ i₀ dst next i = i

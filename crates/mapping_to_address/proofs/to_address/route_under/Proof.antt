@@ -4,9 +4,10 @@ use mathlib.Core.Path.{_≡_}
 use Prim.Native.Nat.{_≤_}
 use native.Mathlib.Omega.{arith}
 use lib.ListN.{length}
-use Rattle.table_lookup.specs.Looked.{tokensOf}
+use Rattle.chars.specs.Case.{sameText}
+use Rattle.table_lookup.specs.Looked.{levelTokens}
 use Rattle.table.specs.Rows.{rowAt}
-use Rattle.table_lookup.proofs.Laws.Lookup.{begins-length}
+use Rattle.table_lookup.proofs.Laws.Begins.{begins-length}
 use Rattle.mapping.proofs.Laws.Route.{length-tokens, routed-under}
 use borrow.Author.Needs.{needs}
 use Rattle.mapping_to_address.proofs.to_address.route_under.Statement.{statement}
@@ -25,8 +26,8 @@ few : (c : tie.After-count-levels) → c .count-levels .result ≤ 8
 few c =
     let start = c .before .before .before .before in
     let a = start .args in
-    let q = tokensOf (a .flat .now) (a .ends .now) in
-    omega (arith, own c, begins-length (rowAt (a .text .now) (a .row) .path) q (start .pre .1 .1), length-tokens (a .flat .now) (a .ends .now))
+    let q = levelTokens (a .flat .now) (a .ends .now) in
+    omega (arith, own c, begins-length sameText (rowAt (a .text .now) (a .row) .path) q (start .pre .1 .1), length-tokens (a .flat .now) (a .ends .now))
 
 count-extension-requires : tie.Need-count-extension-requires
 count-extension-requires c κs = (few c, c .before .before .before .before .pre .1 .0)
@@ -36,7 +37,7 @@ returns c =
     let at = c .before in
     let start = at .before .before .before .before in
     let a = start .args in
-    routed-under (a .text .now) (a .row) (tokensOf (a .flat .now) (a .ends .now)) (at .count-levels .result) (c .count-extension .result)
+    routed-under (a .text .now) (a .row) (levelTokens (a .flat .now) (a .ends .now)) (at .count-levels .result) (c .count-extension .result)
     (start .pre .0) (length-tokens (a .flat .now) (a .ends .now)) (few at) (own at) (c .count-extension .ensures)
 
 pub route-under-spec : {M : Type 1} → statement M

@@ -55,7 +55,7 @@ returns c =
     let s = a .table .now in
     c .map-address .ensures
     ∙ inward-same (rowAt s (t .gateway)) (rowsAt s (l .load .last .1 .0) (t .«to_path»)) (rowsAt s (l .load .last .1 .1 .0) (t .«to_domain»)) (a .s .now)
-    ∙ ap (λ (x : lines.Loaded). toRecordBy x (a .s .now)) (loaded at .answers)
+    ∙ ap (λ (x : lines.TableOutcome). toRecordBy x (a .s .now)) (loaded at .answers)
 
 returns-2 : tie.Need-returns-2
 unfolding addressToRecord toRecordBy malformedRecord recordNumber recordLine loadAnswer
@@ -65,7 +65,7 @@ returns-2 c =
     let a = l .before .before .before .before .before .args in
     let n = at .line .given in
     let h : lines.malformed (n .0 .0) ≡ lines.loadedFrom (a .table .now) = rw (n .1) at (l .load .ensures .answers) in
-    c .refused .ensures ∙ ap (λ (x : lines.Loaded). toRecordBy x (a .s .now)) h
+    c .refused .ensures ∙ ap (λ (x : lines.TableOutcome). toRecordBy x (a .s .now)) h
 
 pub address-to-record-spec : {M : Type 1} → statement M
 address-to-record-spec =

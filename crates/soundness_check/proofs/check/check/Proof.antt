@@ -4,7 +4,7 @@ use mathlib.Core.Path.{_≡_, refl, sym, subst}
 use mathlib.Core.List.{List}
 use Prim.Native.Nat.{ℕ}
 use Rattle.oraddr.specs.View.{domainDefinedOf, emptyRecord, orgUnitOf, valueOf}
-use Rattle.table.specs.Lines.{Loaded, loadedFrom, malformed, wellFormed}
+use Rattle.table.specs.Lines.{TableOutcome, loadedFrom, malformed, wellFormed}
 use Rattle.table.specs.Load.{Loading, loadAnswer}
 use Rattle.table.specs.Rows.{tableAt}
 use Rattle.table.specs.declared.load.TableRead.the-variants.{Malformed, Table}
@@ -58,7 +58,7 @@ returns c =
     let at = c .before .before .before .before in
     let s : List ℕ = at .before .before .before .before .before .before .before .before .args .table .now in
     let l = at .before .before .before .before .load in
-    subst (λ (x : Loaded). Demand3 x (toldCheck (c .check-loaded .result))) (spelled at)
+    subst (λ (x : TableOutcome). Demand3 x (toldCheck (c .check-loaded .result))) (spelled at)
     (told-judged (tableAt s (l .last .1 .0) (l .last .1 .1 .0) (at .t .given .0 .0)) (c .check-loaded .result) (c .check-loaded .ensures))
 
 returns-2 : tie.Need-returns-2
@@ -69,7 +69,7 @@ returns-2 c =
     let line = c .before .line .given in
     let told : Loading s (loadedFrom s) (Malformed (line .0 .0)) (l .last .1 .0) (l .last .1 .1 .0) = rw (line .1) at (l .ensures) in
     let e : malformed (line .0 .0) ≡ loadedFrom s = told .answers in
-    subst (λ (x : Loaded). Demand3 x (record { number = 7; line = line .0 .0; record' = emptyRecord })) e (record { number = refl; line = refl; empty = refl })
+    subst (λ (x : TableOutcome). Demand3 x (record { number = 7; line = line .0 .0; record' = emptyRecord })) e (record { number = refl; line = refl; empty = refl })
 
 pub check-spec : {M : Type 1} → statement M
 check-spec =

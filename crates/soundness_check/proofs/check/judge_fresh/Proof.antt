@@ -8,7 +8,7 @@ use native.Mathlib.Omega.{arith}
 use lib.Dec.{eqb}
 use Rattle.table.specs.Rows.{between, rowAt, tableAt}
 use Rattle.table.specs.Table.{Row, Table}
-use Rattle.soundness.specs.Folded.{domainRow, tokensOf}
+use Rattle.soundness.specs.Folded.{domainRow, tokenTable}
 use Rattle.soundness.specs.Sound.{comesBack}
 use Rattle.soundness.specs.Tokens.{Tried}
 use Rattle.soundness.proofs.Laws.First.{bare-asks, bare-tried, fresh-small, label-length, parts-count, path-added, two-asks, two-tried}
@@ -79,7 +79,7 @@ returns c =
     let a = start .args in
     let t : Table = tableAt (a .text .now) (a .to-path .now) (a .to-domain .now) (a .table) in
     let r : Row = rowAt (a .text .now) (a .row) in
-    judged-then t (comesBack t (made .result) ≡ true) (Tried (tokensOf t) (domainRow r) (eqb (a .k) 3)) (c .judge .result .answer) (c .judge .result .«record»)
+    judged-then t (comesBack t (made .result) ≡ true) (Tried (tokenTable t) (domainRow r) (eqb (a .k) 3)) (c .judge .result .answer) (c .judge .result .«record»)
     (two-tried t (start .pre .1 .0) r (start .pre .1 .1 .1 .0) (number .result) (label .result) (label .ensures) (a .k) (start .pre .1 .1 .1 .1 .0)
     (made .result) (c .before .before .before .if1 .taken) (made .ensures) (number .ensures))
     (c .judge .ensures)
@@ -131,7 +131,7 @@ returns-2 c =
     let a = start .args in
     let t : Table = tableAt (a .text .now) (a .to-path .now) (a .to-domain .now) (a .table) in
     let r : Row = rowAt (a .text .now) (a .row) in
-    judged-then t (comesBack t (made .result) ≡ true) (Tried (tokensOf t) (domainRow r) (eqb (a .k) 3)) (c .judge2 .result .answer) (c .judge2 .result .«record»)
+    judged-then t (comesBack t (made .result) ≡ true) (Tried (tokenTable t) (domainRow r) (eqb (a .k) 3)) (c .judge2 .result .answer) (c .judge2 .result .«record»)
     (bare-tried t (start .pre .1 .0) r (start .pre .1 .1 .1 .0) (number .result) (label .result) (label .ensures) (a .k) (start .pre .1 .1 .1 .1 .0)
     (made .result) (three (c .before .before)) (made .ensures) (number .ensures))
     (c .judge2 .ensures)

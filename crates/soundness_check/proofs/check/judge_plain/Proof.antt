@@ -6,7 +6,7 @@ use mathlib.Core.Bool.{true}
 use mathlib.Core.Path.{_≡_}
 use Rattle.table.specs.Rows.{rowAt, tableAt}
 use Rattle.table.specs.Table.{Row, Table}
-use Rattle.soundness.specs.Folded.{domainRow, tokensOf}
+use Rattle.soundness.specs.Folded.{domainRow, tokenTable}
 use Rattle.soundness.specs.Sound.{comesBack}
 use Rattle.soundness.specs.Tokens.{Back, pad}
 use Rattle.soundness.proofs.Laws.First.{plain-asks, plain-tried}
@@ -33,7 +33,7 @@ returns c =
     let a = start .args in
     let t : Table = tableAt (a .text .now) (a .to-path .now) (a .to-domain .now) (a .table) in
     let r : Row = rowAt (a .text .now) (a .row) in
-    judged-then t (comesBack t (made .result) ≡ true) (Back (tokensOf t) (pad (domainRow r .key))) (c .judge .result .answer) (c .judge .result .«record»)
+    judged-then t (comesBack t (made .result) ≡ true) (Back (tokenTable t) (pad (domainRow r .key))) (c .judge .result .answer) (c .judge .result .«record»)
     (plain-tried t (start .pre .1 .0) r (start .pre .1 .1 .1) (made .result) (made .ensures))
     (c .judge .ensures)
 

@@ -8,7 +8,7 @@ use Rattle.chars.proofs.Laws.Lists.{failed, passed}
 use Rattle.table.specs.Rows.{rowAt, tableAt}
 use Rattle.table.specs.Table.{Row, Table}
 use Rattle.soundness.specs.Check.{FirstBack}
-use Rattle.soundness.specs.Folded.{domainRow, tokensOf}
+use Rattle.soundness.specs.Folded.{domainRow, tokenTable}
 use Rattle.soundness.specs.Tokens.{Back, Tried, pad}
 use Rattle.soundness.proofs.Laws.First.{first-bare, first-named, first-plain, first-two}
 use Rattle.soundness.proofs.Laws.Judged.{judged-found, judged-holds, judged-then}
@@ -32,7 +32,7 @@ returns c =
     let t : Table = tableAt (a .text .now) (a .to-path .now) (a .to-domain .now) (a .table) in
     let r : Row = rowAt (a .text .now) (a .row) in
     let done = c .judge-fresh in
-    judged-then t (Tried (tokensOf t) (domainRow r) (eqb (count .result) 3)) (FirstBack t r) (done .result .answer) (done .result .«record»)
+    judged-then t (Tried (tokenTable t) (domainRow r) (eqb (count .result) 3)) (FirstBack t r) (done .result .answer) (done .result .«record»)
     (first-two t r (count .result) (count .ensures) (c .before .if1 .taken))
     (done .ensures)
 
@@ -48,7 +48,7 @@ returns-2 c =
     let t : Table = tableAt (a .text .now) (a .to-path .now) (a .to-domain .now) (a .table) in
     let r : Row = rowAt (a .text .now) (a .row) in
     let done = c .before .before .judge-plain in
-    judged-found t (Back (tokensOf t) (pad (domainRow r .key))) (FirstBack t r) (done .result .answer) (done .result .«record»)
+    judged-found t (Back (tokenTable t) (pad (domainRow r .key))) (FirstBack t r) (done .result .answer) (done .result .«record»)
     (failed (c .before .is-sound .ensures) (c .if2 .taken))
     (done .ensures)
 
@@ -61,7 +61,7 @@ returns-3 c =
     let t : Table = tableAt (a .text .now) (a .to-path .now) (a .to-domain .now) (a .table) in
     let r : Row = rowAt (a .text .now) (a .row) in
     let done = c .before .before .before .judge-plain in
-    judged-then t (Back (tokensOf t) (pad (domainRow r .key))) (FirstBack t r) (done .result .answer) (done .result .«record»)
+    judged-then t (Back (tokenTable t) (pad (domainRow r .key))) (FirstBack t r) (done .result .answer) (done .result .«record»)
     (λ p. first-plain t r (count .result) (count .ensures) (other .if1 .left) p (c .if3 .taken))
     (done .ensures)
 
@@ -78,7 +78,7 @@ returns-4 c =
     let a = other .before .before .before .before .before .args in
     let t : Table = tableAt (a .text .now) (a .to-path .now) (a .to-domain .now) (a .table) in
     let r : Row = rowAt (a .text .now) (a .row) in
-    judged-then t (Back (tokensOf t) (pad (domainRow r .key))) (FirstBack t r) (done .result .answer) (done .result .«record»)
+    judged-then t (Back (tokenTable t) (pad (domainRow r .key))) (FirstBack t r) (done .result .answer) (done .result .«record»)
     (λ p. first-named t r (count .result) (count .ensures) (other .if1 .left) p (a .text .now) (third .result .start) (third .result .len)
     (third .ensures .0) (third .ensures .1) (c .if4 .taken))
     (done .ensures)
@@ -104,10 +104,10 @@ returns-5 c =
     let t : Table = tableAt (a .text .now) (a .to-path .now) (a .to-domain .now) (a .table) in
     let r : Row = rowAt (a .text .now) (a .row) in
     let p =
-    judged-holds t (Back (tokensOf t) (pad (domainRow r .key))) (first .result .answer) (first .result .«record»)
+    judged-holds t (Back (tokenTable t) (pad (domainRow r .key))) (first .result .answer) (first .result .«record»)
     (passed (sound .before .is-sound .ensures) (sound .if2 .left))
     (first .ensures) in
-    judged-then t (Tried (tokensOf t) (domainRow r) (eqb (count .result) 3)) (FirstBack t r) (done .result .answer) (done .result .«record»)
+    judged-then t (Tried (tokenTable t) (domainRow r) (eqb (count .result) 3)) (FirstBack t r) (done .result .answer) (done .result .«record»)
     (first-bare t r (count .result) (count .ensures) (other .if1 .left) p three)
     (done .ensures)
 

@@ -11,7 +11,7 @@ use Rattle.mailaddr.specs.Domain.{partsOf}
 use Rattle.table.specs.Rows.{RowInside, between, rowAt, rowsAt, rowsFrom}
 use Rattle.table.specs.declared.line.Row.{Row}
 use Rattle.soundness.specs.Folded.{foldTokens, pathRow}
-use Rattle.soundness.specs.Labels.{marked, numberOf}
+use Rattle.soundness.specs.Labels.{marked, labelNumber}
 use Rattle.soundness.proofs.Laws.Marks.{marks-all, marks-end, marks-more}
 use Rattle.soundness_fresh.proofs.fresh.mark_domains.Statement.{statement}
 use Rattle.soundness_fresh.proofs.fresh.mark_domains.Tie as tie
@@ -69,7 +69,7 @@ loop-again c =
       l .inv .2
           ∙ marks-more pathRow (a .k) (a .text .now) (a .rows .now) (a .n) (l .marks) (l .i) (omega arith)
           ∙ ap (λ (ms : List Bool). marked (a .k) (map pathRow (rowsFrom (a .text .now) (a .rows .now) (l .i + 1) (a .n - (l .i + 1)))) ms)
-          (sym (done .ensures ∙ ap (λ (p : Row). set (l .marks) (numberOf (getD (foldTokens (partsOf (rowAt (a .text .now) p .domain))) (a .k) [])) true) (row .ensures))),
+          (sym (done .ensures ∙ ap (λ (p : Row). set (l .marks) (labelNumber (getD (foldTokens (partsOf (rowAt (a .text .now) p .domain))) (a .k) [])) true) (row .ensures))),
     )
 
 same-length : tie.Need-same-length Inv-loop μ-loop

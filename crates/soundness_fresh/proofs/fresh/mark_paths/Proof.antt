@@ -10,7 +10,7 @@ use lib.ListN.{length, getD, set}
 use Rattle.table.specs.Rows.{RowInside, rowAt, rowsAt, rowsFrom}
 use Rattle.table.specs.declared.line.Row.{Row}
 use Rattle.soundness.specs.Folded.{domainRow, foldTokens}
-use Rattle.soundness.specs.Labels.{marked, numberOf}
+use Rattle.soundness.specs.Labels.{marked, labelNumber}
 use Rattle.soundness.proofs.Laws.Marks.{marks-all, marks-end, marks-more, number-at}
 use Rattle.soundness_fresh.proofs.fresh.mark_paths.Statement.{statement}
 use Rattle.soundness_fresh.proofs.fresh.mark_paths.Tie as tie
@@ -73,7 +73,7 @@ loop-again c =
     let span = level .result in
     let number =
     number-at (a .text .now) (span .start) (span .start + span .len) (span .len) (rowAt (a .text .now) (row .result) .path) (a .k) refl (level .ensures .1)
-    ∙ ap (λ (p : Row). numberOf (getD (foldTokens (rowAt (a .text .now) p .path)) (a .k) [])) (row .ensures) in (
+    ∙ ap (λ (p : Row). labelNumber (getD (foldTokens (rowAt (a .text .now) p .path)) (a .k) [])) (row .ensures) in (
       omega arith,
       done .kept .0 ∙ l .inv .1,
       l .inv .2

@@ -1,8 +1,8 @@
--- `soundness_fresh::fresh::number_of` meets its contract: its digits are those of `numberOf`, each below 256.
+-- `soundness_fresh::fresh::number_of` meets its contract: its digits are those of `labelNumber`, each below 256.
 -- Assumes nothing.
 use native.Mathlib.Omega.{arith}
 use borrow.Author.Needs.{needs}
-use Rattle.soundness.specs.Labels.{numberOf}
+use Rattle.soundness.specs.Labels.{labelNumber}
 use Rattle.soundness_fresh.proofs.fresh.number_of.Statement.{statement}
 use Rattle.soundness_fresh.proofs.fresh.number_of.Tie as tie
 
@@ -28,7 +28,7 @@ add-result-2 : tie.Need-add-result-2
 add-result-2 c = omega (arith, c .before .before .digit-at .ensures .1, c .before .digit-at2 .ensures .1, c .digit-at3 .ensures .1)
 
 returns : tie.Need-returns
-unfolding numberOf
+unfolding labelNumber
 returns c = omega (arith, c .before .before .digit-at .ensures .0, c .before .digit-at2 .ensures .0, c .digit-at3 .ensures .0)
 
 pub number-of-spec : {M : Type 1} → statement M

@@ -6,6 +6,7 @@ use mathlib.Core.Bool.{false}
 use native.Mathlib.Omega.{arith}
 use borrow.Author.Needs.{needs}
 use Rattle.chars.specs.Parts.{split}
+use Rattle.table.specs.Lines.{longestRowDomain}
 use Rattle.table.specs.Rows.{RowFound, between}
 use Rattle.table.proofs.Laws.Load.{accepts, adding-domain, adding-path, bad-full, bad-neither, found-inside}
 use Rattle.table.proofs.load.add_row.Statement.{statement}
@@ -28,17 +29,17 @@ enum-known-row c = search needs
 -- the row of a D line, that a line is none, and the row of an R line
 found : (c : tie.After-row)
     → let a = c .before .before .before .before .before .before .before .args in
-    RowFound (a .text .now) (a .from) (a .end) 68 40 (c .row .given .0 .0)
+    RowFound (a .text .now) (a .from) (a .end) 68 longestRowDomain (c .row .given .0 .0)
 found c = rw (c .row .given .1) at (c .before .before .read-row .ensures)
 
 no-found : (c : tie.After-enum-told)
     → let a = c .before .before .before .before .before .before .before .args in
-    accepts 68 40 (split 9 (between (a .text .now) (a .from) (a .end))) ≡ false
+    accepts 68 longestRowDomain (split 9 (between (a .text .now) (a .from) (a .end))) ≡ false
 no-found c = rw (c .enum-told .given .1) at (c .before .before .read-row .ensures)
 
 found-2 : (c : tie.After-row2)
     → let a = c .before .before .before .before .before .before .before .before .before .before .args in
-    RowFound (a .text .now) (a .from) (a .end) 82 40 (c .row2 .given .0 .0)
+    RowFound (a .text .now) (a .from) (a .end) 82 longestRowDomain (c .row2 .given .0 .0)
 found-2 c = rw (c .row2 .given .1) at (c .before .before .read-row2 .ensures)
 
 add-next : tie.Need-add-next

@@ -5,6 +5,7 @@ use native.Mathlib.Omega.{arith}
 use borrow.Author.Needs.{needs}
 use lib.ListN.{length}
 use Rattle.chars.proofs.Laws.Parts.{run-le}
+use Rattle.table.specs.Lines.{longestGatewayDomain}
 use Rattle.table.specs.Rows.{RowFound}
 use Rattle.table.proofs.Laws.Load.{found-inside, loaded-bad, loaded-large, loaded-last, loaded-rows, refused}
 use Rattle.table.proofs.load.load.Statement.{statement}
@@ -32,7 +33,7 @@ ends c =
 -- the gateway's row
 found : (c : tie.After-gateway)
     → let part = c .before .before .before .before in
-    RowFound (part .before .before .before .before .before .args .text .now) 0 (part .part-end .result) 71 253 (c .gateway .given .0 .0)
+    RowFound (part .before .before .before .before .before .args .text .now) 0 (part .part-end .result) 71 longestGatewayDomain (c .gateway .given .0 .0)
 found c = rw (c .gateway .given .1) at (c .before .before .read-row .ensures)
 
 read-row-requires : tie.Need-read-row-requires

@@ -7,14 +7,14 @@ use lib.ListN.{length, drop, getD}
 use Rattle.chars.proofs.Laws.Lists.{failed, passed}
 use Rattle.table.specs.Rows.{between}
 use Rattle.table_lookup.specs.Lookup.{extension}
-use Rattle.table_lookup.specs.Looked.{tokensOf}
+use Rattle.table_lookup.specs.Looked.{levelTokens}
 use Rattle.table_lookup.proofs.Laws.Extension.{extension-ends, extension-more, extension-past}
 use borrow.Author.Needs.{needs}
 use Rattle.table_lookup.proofs.extend.count_extension.Statement.{statement}
 use Rattle.table_lookup.proofs.extend.count_extension.Tie as tie
 
 abbrev Inv-loop : tie.InvT-loop
-Inv-loop levels ends k i₀ i = (k ≤ i) × (i ≤ 8) × (k + length (extension (drop k (tokensOf levels ends))) ≡ i + length (extension (drop i (tokensOf levels ends))))
+Inv-loop levels ends k i₀ i = (k ≤ i) × (i ≤ 8) × (k + length (extension (drop k (levelTokens levels ends))) ≡ i + length (extension (drop i (levelTokens levels ends))))
 
 abbrev μ-loop : tie.MeasureT-loop
 μ-loop levels ends k i₀ i = 8 - i

@@ -15,7 +15,7 @@ use Rattle.chars.proofs.Laws.Lists.{and-left}
 use Rattle.table.specs.Table.{Token}
 use Rattle.table.specs.Rows.{RowInside, placesAt, rowAt}
 use Rattle.table_lookup.specs.Lookup.{begins, byPath}
-use Rattle.table_lookup.specs.Looked.{Looked, tokensOf}
+use Rattle.table_lookup.specs.Looked.{Looked, levelTokens}
 use Rattle.table_lookup.proofs.Laws.Lookup.{looked-none, noLonger, passed-over, taken}
 use Rattle.table_lookup.proofs.Laws.Paths.{levelsAt, path-test}
 use Rattle.table_lookup.proofs.lookup.find_path.Statement.{statement}
@@ -23,7 +23,7 @@ use Rattle.table_lookup.proofs.lookup.find_path.Tie as tie
 
 abbrev Inv-loop : tie.InvT-loop
 Inv-loop text rows n levels ends tags found₀ longest₀ i₀ found longest i =
-    (i ≤ n) × Looked byPath text rows i (tokensOf levels ends) found × (longest ≡ levelsAt text rows found)
+    (i ≤ n) × Looked byPath text rows i (levelTokens levels ends) found × (longest ≡ levelsAt text rows found)
 
 abbrev μ-loop : tie.MeasureT-loop
 μ-loop text rows n levels ends tags found₀ longest₀ i₀ found longest i = n - i
@@ -38,7 +38,7 @@ loop-holds : tie.Need-loop-holds Inv-loop μ-loop
 unfolding levelsAt
 loop-holds c =
     let args = c .before .before .before .before .before .before .before .args in
-    (omega arith, looked-none byPath (args .text .now) (args .rows .now) (tokensOf (args .levels .now) (args .ends .now)), refl)
+    (omega arith, looked-none byPath (args .text .now) (args .rows .now) (levelTokens (args .levels .now) (args .ends .now)), refl)
 
 row-at-requires : tie.Need-row-at-requires Inv-loop μ-loop
 row-at-requires c κs = omega arith
@@ -66,8 +66,8 @@ came : (c : tie.After-match-tagged Inv-loop μ-loop) →
     let at = c .before .before .before .before in
     let a = at .before .before .before .before .before .before .before .before .args in
     let fs : List Token = byPath (rowAt (a .text .now) (placesAt (a .rows .now) (at .loop .i))) in
-    c .match-tagged .result ≡ cond (begins fs (tokensOf (a .levels .now) (a .ends .now))) (0 + length fs) 0
-unfolding rowAt tokensOf
+    c .match-tagged .result ≡ cond (begins fs (levelTokens (a .levels .now) (a .ends .now))) (0 + length fs) 0
+unfolding rowAt levelTokens
 came c = rw (c .before .before .row-at .ensures) at (c .match-tagged .ensures)
 
 -- the test of a row is the definition's
@@ -75,12 +75,12 @@ test : (c : tie.After-match-tagged Inv-loop μ-loop) →
     let at = c .before .before .before .before in
     let a = at .before .before .before .before .before .before .before .before .args in
     leb (at .loop .longest) (c .match-tagged .result)
-    ≡ (begins (byPath (rowAt (a .text .now) (placesAt (a .rows .now) (at .loop .i)))) (tokensOf (a .levels .now) (a .ends .now)) && noLonger byPath (a .text .now) (a .rows .now) (at .loop .found) (at .loop .i))
+    ≡ (begins (byPath (rowAt (a .text .now) (placesAt (a .rows .now) (at .loop .i)))) (levelTokens (a .levels .now) (a .ends .now)) && noLonger byPath (a .text .now) (a .rows .now) (at .loop .found) (at .loop .i))
 test c =
     let at = c .before .before .before .before in
     let start = at .before .before .before .before .before .before .before .before in
     let a = start .args in
-    path-test (a .text .now) (a .rows .now) (tokensOf (a .levels .now) (a .ends .now)) (a .n) (at .loop .i) (start .pre .0) (omega arith) (at .loop .found) (at .loop .inv .1)
+    path-test (a .text .now) (a .rows .now) (levelTokens (a .levels .now) (a .ends .now)) (a .n) (at .loop .i) (start .pre .0) (omega arith) (at .loop .found) (at .loop .inv .1)
     (at .loop .longest) (c .match-tagged .result) (at .loop .inv .2) (came c)
 
 loop-again : tie.Need-loop-again Inv-loop μ-loop
@@ -90,7 +90,7 @@ loop-again c =
     let a = at .before .before .before .before .before .before .before .before .args in
     let s : List ℕ = a .text .now in
     let ns : List ℕ = a .rows .now in
-    let q : List Token = tokensOf (a .levels .now) (a .ends .now) in
+    let q : List Token = levelTokens (a .levels .now) (a .ends .now) in
     let i = at .loop .i in
     let fs : List Token = byPath (rowAt s (placesAt ns i)) in
     let k = c .before .match-tagged .result in
