@@ -1,7 +1,5 @@
 -- What the readers' answers stand for: "one definition gives document 01's number and values for each case".
 -- Assumes nothing.
-use Prim.Native.Nat.{ℕ}
-use Rattle.oraddr.specs.View.{emptyRecord}
 use Rattle.oraddr.specs.declared.record.Record.{Record}
 use Rattle.ortext_read.specs.Apply as apply
 use Rattle.ortext_read.specs.Apply.{unread, refused, again, read}

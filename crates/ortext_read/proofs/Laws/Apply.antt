@@ -12,7 +12,7 @@ use lib.Seq.{getD-set-other, set-out}
 use Rattle.chars.specs.Lists.{all, nonEmpty}
 use Rattle.chars.proofs.Laws.Lists.{and-left, and-right, by-test, or-right}
 use Rattle.chars.specs.Case.{agree, equalText}
-use Rattle.chars.proofs.Laws.Seq.{absent-is, no-length, some-test}
+use Rattle.chars.proofs.Laws.Seq.{absent-is, some-test}
 use Rattle.oraddr.specs.Bounds.{C, ADMD, isSpace, isValue, most, rule}
 use Rattle.oraddr.specs.Attributes.{Attributes, Dd, singleOf}
 use Rattle.oraddr.specs.Canonical.{allKept, isDd, isUnit, kept}

@@ -9,8 +9,8 @@ use native.Mathlib.Nat.{le-of-suc-le-suc, not-suc-le-zero}
 use native.Mathlib.Omega.{arith}
 use borrow.Author.Tests.{eqb-true, eqb-false, le-leb, leb-true, ltb-false, lt-ltb, le-ltb, ltb-true, ne-eqb, not-true}
 use lib.Dec.{eqb, leb, ltb}
-use lib.ListN.{length, drop, getD, replicate, length-append, length-drop, length-replicate, getD-replicate, drop-of-length-le, List·getD-eq-default, List·getD-append}
-use lib.Seq.{drop-cons, getD-append-add, getD-drop}
+use lib.ListN.{length, drop, getD, replicate, length-append, length-drop, drop-of-length-le, List·getD-eq-default}
+use lib.Seq.{drop-cons, getD-drop}
 use Rattle.chars.proofs.Laws.Seq.{absent-is}
 use Rattle.chars.specs.Lists.{all, bytes, member, nonEmpty}
 use Rattle.chars.specs.Class.{between, isDigit, isLabelChar, isLetter, isPrintable}
