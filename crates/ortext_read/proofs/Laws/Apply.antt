@@ -22,7 +22,9 @@ use Rattle.oraddr.specs.declared.record.Record.{Record}
 use Rattle.oraddr.proofs.Laws.Canonical.{kept-some}
 use Rattle.oraddr.proofs.Laws.Made.{Made, made-single, made-unit, made-dd, single-added, unit-added, dd-added}
 use Rattle.oraddr.proofs.Laws.View.{outcome-keeps}
-use Rattle.ortext_read.specs.Apply.{addAll, addDds, addSingles, addUnits, andThen, complete}
+use Rattle.ortext_segments.specs.Keys.{singleCount}
+use Rattle.ortext_read.specs.Apply.{addAll, complete}
+use Rattle.ortext_build.specs.Adding.{addDds, addSingles, addUnits, andThen}
 
 -- what is absent is empty
 -- ---- what is added over what is there
@@ -78,11 +80,11 @@ then-is o f h = rw (eq-eqb (o .number) 0 h)
 made-at : (r : Record) → Made r → (k : ℕ) (v : List ℕ) → Made (addSingle r k v .record')
 unfolding addSingle setSingle
 made-at r m k v =
-    by-test (ltb k 8)
-    (λ e. made-single r m k v (ltb-true k 8 e))
+    by-test (ltb k singleCount)
+    (λ e. made-single r m k v (ltb-true k singleCount e))
     (λ e. outcome-keeps Made (rule k v && eqb (getD (r .singles .values) k (valueOf []) .len) 0)
     (record { singles = record { values = set (r .singles .values) k (valueOf v) }; units = r .units; dds = r .dds }) r
-    (λ _. rw (set-out (r .singles .values) k (valueOf v) (omega (arith, m .shaped .values, ltb-false k 8 e))) m)
+    (λ _. rw (set-out (r .singles .values) k (valueOf v) (omega (arith, m .shaped .values, ltb-false k singleCount e))) m)
     m)
 
 module _ (o : Outcome) (b : Attributes) (h : Holds o b) where
