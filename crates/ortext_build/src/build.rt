@@ -1,6 +1,7 @@
 // The attributes that a record text names, added to a record one at a time.
 use oraddr::add::Added;
 use oraddr::add::Addition;
+use oraddr::bounds::DD_VALUE_ROOM;
 use oraddr::bounds::G;
 use oraddr::bounds::I;
 use oraddr::bounds::S;
@@ -23,6 +24,7 @@ ghost use mathlib.Core.Option.{some};
 ghost use Prim.Native.Nat.{_+_, _*_, _<_, _≤_};
 ghost use lib.Dec.{eqb};
 ghost use lib.ListN.{drop, getD, length, take};
+ghost use Rattle.oraddr.specs.Bounds.{I};
 ghost use Rattle.oraddr.specs.Add.{addDd, addUnit, told};
 ghost use Rattle.ortext_build.specs.Adding.{addDds, addSingles, addUnits, Fronted, addHeld, addName, addPn, ddAt, done, start};
 ghost use Rattle.ortext_name.specs.Places.{Placed, lettersAt, nameAt};
@@ -31,7 +33,7 @@ ghost use Rattle.ortext_segments.specs.Scan.{spanText};
 ghost use Rattle.ortext_named.specs.Named.{AllSound, Sound};
 
 // The longest text, with its quoting, that can still keep a bound: each character of the longest value quoted.
-pub const ROOM: usize = 256;
+const ROOM: usize = 2 * DD_VALUE_ROOM;
 
 // Where the character at a place stands: behind the `$` that quotes it, or right there.
 fn skip_quote(s: &[u8], i: usize) -> usize
@@ -183,7 +185,7 @@ fn add_singles(rec: Record, s: &[u8], named: Named) -> Addition
 // Adds n initials, which stand each with a dot.
 fn add_initials(rec: Record, text: &[u8], from: usize, n: usize) -> Addition
     requires { ⌜ from + 2 * n ≤ length (now text) ⌝ }
-    ensures { λ r. ⌜ told r ≡ addSingles 6 (lettersAt n (drop from (now (text .entry))) ∷ []) (start rec) ⌝ }
+    ensures { λ r. ⌜ told r ≡ addSingles I (lettersAt n (drop from (now (text .entry))) ∷ []) (start rec) ⌝ }
 {
     if ROOM < n {
         return Addition {

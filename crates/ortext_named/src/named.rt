@@ -73,7 +73,7 @@ impl Named {
         ensures { λ r. ⌜ r ≡ withOnce self k value ⌝ }
     {
         let there = self.once[k];
-        if there.len != 0 {
+        if 0 < there.len {
             self.bad = true;
             return self;
         }

@@ -15,7 +15,7 @@ use Rattle.chars.specs.Lists.{nonEmpty}
 use Rattle.chars.proofs.Laws.Lists.{and-both, and-left, and-right, by-test, or-left, or-right, true-not-false}
 use Rattle.chars.proofs.Laws.Seq.{some-length}
 use Rattle.oraddr.specs.Attributes.{Dd}
-use Rattle.oraddr.specs.Bounds.{O, OU, DD-TYPE, DD-VALUE, boundOf, isValue, most, rule}
+use Rattle.oraddr.specs.Bounds.{O, S, G, I, OU, DD-TYPE, DD-VALUE, boundOf, isValue, most, rule}
 use Rattle.oraddr.specs.Canonical.{allKept, isDd, isUnit, kept}
 use Rattle.oraddr.specs.Add.{Outcome, addDd, addSingle, addUnit, numberOf, outcome, pushDd, pushUnit, told}
 use Rattle.oraddr.specs.declared.add.Added.the-variants.{Done, Refused}
@@ -178,12 +178,12 @@ dds-next f d i l o h = rw (add-one, drop-cons l i d)
 
 -- ---- the pieces of a name, one after the other
 
-pub name-next : (r : Record) (n : Name) (o : Outcome) → o ≡ addSingles 4 (n .surname ∷ []) (start r) → addName r (some n) ≡ addSingles 5 (n .given ∷ n .initials ∷ []) o
+pub name-next : (r : Record) (n : Name) (o : Outcome) → o ≡ addSingles S (n .surname ∷ []) (start r) → addName r (some n) ≡ addSingles G (n .given ∷ n .initials ∷ []) o
 unfolding addName
-name-next r n o e = singles-cons 4 (n .surname) (n .given ∷ n .initials ∷ []) (start r) ∙ ap (addSingles 5 (n .given ∷ n .initials ∷ [])) (sym e)
+name-next r n o e = singles-cons 4 (n .surname) (n .given ∷ n .initials ∷ []) (start r) ∙ ap (addSingles G (n .given ∷ n .initials ∷ [])) (sym e)
 
-pub name-last : (r : Record) (n : Name) (o p : Outcome) → o ≡ addSingles 4 (n .surname ∷ []) (start r) → p ≡ addSingles 5 (n .given ∷ []) o → addName r (some n) ≡ addSingles 6 (n .initials ∷ []) p
-name-last r n o p e f = name-next r n o e ∙ singles-cons 5 (n .given) (n .initials ∷ []) o ∙ ap (addSingles 6 (n .initials ∷ [])) (sym f)
+pub name-last : (r : Record) (n : Name) (o p : Outcome) → o ≡ addSingles S (n .surname ∷ []) (start r) → p ≡ addSingles G (n .given ∷ []) o → addName r (some n) ≡ addSingles I (n .initials ∷ []) p
+name-last r n o p e f = name-next r n o e ∙ singles-cons 5 (n .given) (n .initials ∷ []) o ∙ ap (addSingles I (n .initials ∷ [])) (sym f)
 
 -- ---- a name too long for its pieces
 
@@ -201,7 +201,7 @@ unfolding addName done
 name-none r = refl
 
 -- the pieces of a name that was added are within their bounds
-name-some : (r : Record) (n : Name) → (length (n .given) ≤ 16 → length (n .initials) ≤ 5 → length (n .surname) ≤ 40 → ⊥) → none ≡ done (addName r (some n))
+name-some : (r : Record) (n : Name) → (length (n .given) ≤ boundOf G → length (n .initials) ≤ boundOf I → length (n .surname) ≤ boundOf S → ⊥) → none ≡ done (addName r (some n))
 unfolding addName done allKept
 name-some r n f =
     by-test (eqb (addName r (some n) .number) 0)
@@ -214,7 +214,7 @@ name-some r n f =
     absurd (f (kept-length 5 (n .given) (omega arith) g) (kept-length 6 (n .initials) (omega arith) i) (kept-length 4 (n .surname) (omega arith) s)))
     (λ e. rw e)
 
-pub name-long : (r : Record) (t : List ℕ) → 128 < length t → none ≡ done (addName r (readName t))
+pub name-long : (r : Record) (t : List ℕ) → boundOf DD-VALUE < length t → none ≡ done (addName r (readName t))
 name-long r t h = long (readName t) refl
   where
     long : (o : Option Name) → readName t ≡ o → none ≡ done (addName r o)

@@ -256,10 +256,6 @@ module _ (a : Attributes) where
 -- ---- what is left, by its parts
 
 module _ (n : ℕ) (a : Attributes) where
-  pub remaining-single : remaining n a .single ≡ replicate (min n ownLevels) [] ++ drop (min n ownLevels) (a .single)
-  unfolding remaining
-  remaining-single = refl
-
   pub remaining-units : remaining n a .units ≡ drop (n - ownLevels) (a .units)
   unfolding remaining
   remaining-units = refl
@@ -271,10 +267,6 @@ module _ (n : ℕ) (a : Attributes) where
   pub remaining-length : length (a .single) ≡ singleCount → length (remaining n a .single) ≡ singleCount
   unfolding remaining
   remaining-length h = simp (length-append, length-replicate, length-drop) (omega arith)
-
-pub remaining-none : (a : Attributes) → remaining 0 a ≡ a
-unfolding remaining
-remaining-none a = refl
 
 -- ---- the rules of a canonical record, of what is left of it
 

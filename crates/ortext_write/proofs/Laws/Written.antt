@@ -27,6 +27,7 @@ use Rattle.oraddr.specs.Bounds.{boundOf, isCountry, isSpace, isValue, rule, C, 
 use Rattle.oraddr.specs.declared.record.Record.{Record}
 use Rattle.oraddr.specs.Canonical.{allKept, canonical, identified, isDd, isUnit, kept}
 use Rattle.oraddr.proofs.Laws.Canonical.{canonical-parts}
+use Rattle.ortext_read.proofs.Laws.Values.{dds-append, values-append}
 use Rattle.ortext_read.specs.Apply.{addNamed, applied, readText, ddsOf, hasEmpty, hasRepeated, hasUnknown, nameOf, named, namedAgain, pnMeets, singleKeys, valueAt, valuesAt, withName}
 use Rattle.ortext_name.specs.Name.{Name, isShort, nameText}
 use Rattle.ortext_write.specs.Write.{ddSegment, plainSegment, segmentsAt, segmentsIn, order, recordText, remaining, hasShort, joined, keyValue, longDd, quoted, segmentText, segmentsText, shortKey}
@@ -334,16 +335,6 @@ module _ (ks : Keys) where
   spelled-in a (j ∷ js) = rw (map-append (spelled ks) (segmentsAt a j) (segmentsIn a js), spelled-at a j, spelled-in a js)
 
 -- ---- what the written segments name
-
-values-append : (k : ℕ) (s t : List Segment) → valuesAt k (s ++ t) ≡ valuesAt k s ++ valuesAt k t
-unfolding valuesAt
-values-append k [] t = refl
-values-append k (g ∷ s) t = by-test (eqb (g .key) k) (λ e. rw (e, values-append k s t)) (λ e. rw (e, values-append k s t))
-
-dds-append : (s t : List Segment) → ddsOf (s ++ t) ≡ ddsOf s ++ ddsOf t
-unfolding ddsOf
-dds-append [] t = refl
-dds-append (g ∷ s) t = by-test (eqb (g .key) DD-KEY) (λ e. rw (e, dds-append s t)) (λ e. rw (e, dds-append s t))
 
 values-plain : (k j : ℕ) (vs : List (List ℕ)) → valuesAt k (map (plainSegment j) vs) ≡ cond (eqb j k) vs []
 unfolding valuesAt plainSegment
