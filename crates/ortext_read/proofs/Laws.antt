@@ -1,7 +1,5 @@
-pub mod Adding
 pub mod Answers
 pub mod Apply
 pub mod Held
 pub mod Scanned
-pub mod Spans
 pub mod Values

@@ -1,7 +1,7 @@
 -- Document 01, "Address to record" steps 2 to 4: what the segments of a record text name, and the record that comes of it,
 -- over the levels that a domain has settled.
 -- Assumes nothing.
-use Prim.Native.Nat.{ℕ, suc, min}
+use Prim.Native.Nat.{ℕ, min}
 use mathlib.Core.Bool.{Bool, _&&_, _||_, not, cond}
 use mathlib.Core.List.{List, [], _∷_, reverse}
 use mathlib.Core.Option.{Option, none, some}
@@ -10,12 +10,13 @@ use lib.ListN.{length, getD}
 use Rattle.chars.specs.Lists.{all, nonEmpty}
 use Rattle.oraddr.specs.Bounds.{C, ADMD, PRMD, O, S, G, I, GQ}
 use Rattle.oraddr.specs.Attributes.{Attributes, Dd, singleOf}
-use Rattle.oraddr.specs.Add.{Outcome, addSingle, addUnit, addDd}
+use Rattle.oraddr.specs.Add.{Outcome, addSingle}
 use Rattle.oraddr.specs.View.{view}
 use Rattle.oraddr.specs.declared.record.Record.{Record}
-use Rattle.ortext_segments.specs.Keys.{Keys, OU-KEY, DD-KEY, PN-KEY}
+use Rattle.ortext_segments.specs.Keys.{Keys, OU-KEY, DD-KEY, PN-KEY, ownLevels}
 use Rattle.ortext_name.specs.Name.{Name, readName}
 use Rattle.ortext_segments.specs.Segments.{Segment, unknown, readSegments}
+use Rattle.ortext_build.specs.Adding.{addDds, addSingles, addUnits}
 
 -- the values of the segments with the key k, in order
 unfoldable pub valuesAt : ℕ → List Segment → List (List ℕ)
@@ -97,28 +98,9 @@ nameAlone n =
 -- their numbers
 unfoldable pub namedAgain : ℕ → List Segment → Bool
 unfolding all
-namedAgain n gs = not (all (λ g. leb (min n 4) (g .key)) gs)
+namedAgain n gs = not (all (λ g. leb (min n ownLevels) (g .key)) gs)
 
--- ---- the fold of the additions
-
--- the next addition, unless one was refused
-unfoldable pub andThen : Outcome → (Record → Outcome) → Outcome
-andThen o f = cond (eqb (o .number) 0) (f (o .record')) o
-
-unfoldable pub addSingles : ℕ → List (List ℕ) → Outcome → Outcome
-unfolding nonEmpty andThen addSingle
-addSingles k [] o = o
-addSingles k (s ∷ ss) o = addSingles (suc k) ss (cond (nonEmpty s) (andThen o (λ r. addSingle r k s)) o)
-
-unfoldable pub addUnits : List (List ℕ) → Outcome → Outcome
-unfolding andThen addUnit
-addUnits [] o = o
-addUnits (s ∷ ss) o = addUnits ss (andThen o (λ r. addUnit r s))
-
-unfoldable pub addDds : List Dd → Outcome → Outcome
-unfolding andThen addDd
-addDds [] o = o
-addDds (d ∷ ds) o = addDds ds (andThen o (λ r. addDd r (d .kind) (d .value)))
+-- ---- the additions
 
 -- the attributes added to a record, one at a time
 unfoldable pub addAll : Attributes → Record → Outcome

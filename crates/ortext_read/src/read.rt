@@ -1,24 +1,22 @@
 // Record text, and a local part, read into a record (document 01, "Address to record" steps 2 to 4).
-use crate::build::add_name;
-use crate::build::add_named;
-use crate::named::NOTHING;
-use crate::named::Named;
 use oraddr::add::Added;
 use oraddr::add::Addition;
 use oraddr::bounds::ADMD;
 use oraddr::bounds::C;
-use oraddr::record::EMPTY;
 use oraddr::record::Record;
+use ortext_build::build::add_name;
+use ortext_build::build::add_named;
 use ortext_name::name::NameRead;
 use ortext_name::name::read_name;
+use ortext_named::named::Named;
 use ortext_segments::scan::SegmentRead;
 use ortext_segments::scan::read_segment;
 ghost use mathlib.Core.Path.{_≡_};
 ghost use Rattle.ortext_segments.specs.Keys.{keys};
 ghost use Rattle.ortext_read.specs.Apply.{complete, finish, readAsName, readLocal, readText};
 ghost use Rattle.ortext_name.specs.Name.{readName};
-ghost use Rattle.ortext_read.specs.Answers.{reading};
-ghost use Rattle.ortext_read.specs.Named.{AllSound, readHeld};
+ghost use Rattle.ortext_read.specs.Answers.{reading, readHeld};
+ghost use Rattle.ortext_named.specs.Named.{AllSound};
 ghost use Rattle.oraddr.specs.Add.{told};
 
 // What reading came to: a record; that the text does not read; that it names what no record may have, document 01's number
@@ -50,6 +48,15 @@ fn completed(rec: Record) -> Record
     done.record
 }
 
+fn without_record(answer: Answer) -> Reading
+    ensures { λ r. ⌜ r .answer ≡ answer ⌝ }
+{
+    Reading {
+        answer,
+        record: Record::empty(),
+    }
+}
+
 // The end of a reading: the record after all additions, completed, or the refusal.
 fn finished(done: Addition) -> Reading
     ensures { λ r. ⌜ reading r ≡ finish (told done) ⌝ }
@@ -60,19 +67,7 @@ fn finished(done: Addition) -> Reading
             answer: Answer::Done,
             record: completed(done.record),
         },
-        Added::Refused => Reading {
-            answer: Answer::Refused,
-            record: EMPTY,
-        },
-    }
-}
-
-fn without_record(answer: Answer) -> Reading
-    ensures { λ r. ⌜ r .answer ≡ answer ⌝ }
-{
-    Reading {
-        answer,
-        record: EMPTY,
+        Added::Refused => without_record(Answer::Refused),
     }
 }
 
@@ -103,7 +98,7 @@ pub fn read_text(rec: Record, n: usize, s: &[u8]) -> Reading
     if s[0] != b'/' {
         return without_record(Answer::Unread);
     }
-    let mut named = NOTHING;
+    let mut named = Named::nothing();
     let mut at = 1;
     while at < s.len() {
         match read_segment(s, at) {

@@ -1,17 +1,25 @@
 -- The keys of record text: one table, which the reader and the writer share. The definitions take it as a parameter, since
 -- another edition has other keys.
 -- Assumes nothing.
-use Prim.Native.Nat.{ℕ, suc}
-use mathlib.Core.Bool.{Bool, _&&_, _||_, cond}
+use Prim.Native.Nat.{ℕ, suc, _≤_}
+use mathlib.Core.Path.{_≡_}
+use mathlib.Core.Bool.{Bool, cond}
 use mathlib.Core.List.{List, [], _∷_}
-use lib.Dec.{leb, eqb}
-use lib.ListN.{length, getD}
+use lib.ListN.{length, take}
 use Rattle.chars.specs.Lists.{bytes}
 use Rattle.chars.specs.Class.{isLabelChar}
 use Rattle.chars.specs.Case.{sameText}
 use Rattle.chars.specs.Parts.{isPart}
+use Rattle.ortext_segments.specs.declared.keys.KeyName.{KeyName}
 
--- The numbers of keys: 0 to 7 the attributes that a record has once, by their numbers in the table of bounds; then these.
+-- The numbers of keys: first the attributes that a record has once, by their numbers in the table of bounds, of which the first
+-- four are levels; then these.
+abbrev pub singleCount : ℕ
+singleCount = 8
+
+abbrev pub ownLevels : ℕ
+ownLevels = 4
+
 abbrev pub OU-KEY : ℕ
 OU-KEY = 8
 
@@ -35,6 +43,14 @@ unfolding bytes
 keys =
     bytes "C" ∷ bytes "ADMD" ∷ bytes "PRMD" ∷ bytes "O" ∷ bytes "S" ∷ bytes "G" ∷ bytes "I" ∷ bytes "GQ"
     ∷ bytes "OU" ∷ bytes "DD" ∷ bytes "PN" ∷ bytes "RFC-822" ∷ []
+
+abbrev pub keyCount : ℕ
+keyCount = 12
+
+-- an entry of the code's table is a key: what it has as its text
+pub record Spells (n : KeyName) (key : List ℕ) : Type 0 where
+  pub fits : n .len ≤ length (n .bytes)
+  pub text : take (n .len) (n .bytes) ≡ key
 
 -- the number of the first entry that a text spells case aside; as many as there are entries where there is none
 unfoldable pub keyNumber : Keys → List ℕ → ℕ

@@ -1,10 +1,10 @@
 -- Document 01, "Address to record" step 2: record text read as a list of segments.
 -- Assumes nothing.
 use Prim.Native.Nat.{ℕ, _+_, _-_}
-use mathlib.Core.Bool.{Bool, _&&_, cond}
-use mathlib.Core.List.{List, [], _∷_, _++_, map}
-use mathlib.Core.Option.{Option, none, some, Option·map}
-use lib.Dec.{leb, ltb, eqb}
+use mathlib.Core.Bool.{_&&_, cond}
+use mathlib.Core.List.{List, [], _∷_, map}
+use mathlib.Core.Option.{Option, none, some}
+use lib.Dec.{ltb, eqb}
 use lib.ListN.{length, getD, take, drop}
 use Rattle.chars.specs.Lists.{nonEmpty}
 use Rattle.chars.specs.Class.{isPrintable, isLabelChar}

@@ -1,7 +1,10 @@
 // The keys of record text: one table, which the reader and the writer share.
 use chars::case::same_text;
 ghost use mathlib.Core.Path.{_≡_};
-ghost use Rattle.ortext_segments.specs.Keys.{keyNumber, keys};
+ghost use mathlib.Core.List.{[]};
+ghost use Prim.Native.Nat.{_<_};
+ghost use lib.ListN.{getD};
+ghost use Rattle.ortext_segments.specs.Keys.{Spells, keyCount, keyNumber, keys};
 
 // A key as it is written.
 pub struct KeyName {
@@ -24,7 +27,7 @@ pub const UNKNOWN: usize = 11;
 
 pub const KEY_COUNT: usize = 12;
 
-pub const KEYS: [KeyName; KEY_COUNT] = [
+const KEYS: [KeyName; KEY_COUNT] = [
     KeyName {
         len: 1,
         bytes: *b"C\0\0\0\0\0\0",
@@ -75,13 +78,21 @@ pub const KEYS: [KeyName; KEY_COUNT] = [
     },
 ];
 
+// The key with the number k. The table is reached by this call alone: each place that names it would hold all of it.
+pub fn key_name(k: usize) -> KeyName
+    requires { ⌜ k < keyCount ⌝ }
+    ensures { λ r. ⌜ Spells r (getD keys k []) ⌝ }
+{
+    KEYS[k]
+}
+
 // The number of the key that `s` spells, case aside, or KEY_COUNT.
 pub fn key_number(s: &[u8]) -> usize
     ensures { λ r. ⌜ r ≡ keyNumber keys (now (s .entry)) ⌝ }
 {
     let mut k = 0;
     while k < KEY_COUNT {
-        let name = KEYS[k];
+        let name = key_name(k);
         let n = name.len;
         let bytes = name.bytes;
         if same_text(&bytes[..n], s) {

@@ -10,7 +10,7 @@ use chars::parts::byte_at;
 ghost use mathlib.Core.Path.{_≡_};
 ghost use Prim.Native.Nat.{_+_, _<_};
 ghost use lib.Dec.{eqb};
-ghost use lib.ListN.{drop, getD};
+ghost use lib.ListN.{drop};
 ghost use mathlib.Core.Bool.{_||_};
 ghost use mathlib.Core.List.{[]};
 ghost use Rattle.ortext_segments.specs.Keys.{keys};

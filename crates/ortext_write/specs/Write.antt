@@ -8,7 +8,7 @@ use lib.ListN.{length, getD, take, drop, replicate}
 use Rattle.chars.specs.Lists.{all, nonEmpty}
 use Rattle.oraddr.specs.Bounds.{C, ADMD, PRMD, O, S, G, I, GQ}
 use Rattle.oraddr.specs.Attributes.{Attributes, Dd, singleOf}
-use Rattle.ortext_segments.specs.Keys.{Keys, OU-KEY, DD-KEY, SHORT-KEYS, keyNumber}
+use Rattle.ortext_segments.specs.Keys.{Keys, OU-KEY, DD-KEY, SHORT-KEYS, keyNumber, ownLevels}
 use Rattle.ortext_name.specs.Name.{Name, isShort, nameText}
 use Rattle.ortext_segments.specs.Segments.{Segment}
 
@@ -86,8 +86,8 @@ recordText ks a = segmentsText ks (segmentsIn a order)
 unfoldable pub remaining : ℕ → Attributes → Attributes
 remaining n a =
     record {
-      single = replicate (min n 4) [] ++ drop (min n 4) (a .single);
-      units = drop (n - 4) (a .units);
+      single = replicate (min n ownLevels) [] ++ drop (min n ownLevels) (a .single);
+      units = drop (n - ownLevels) (a .units);
       dds = a .dds;
     }
 
@@ -98,7 +98,7 @@ nameIn a = record { given = singleOf a G; initials = singleOf a I; surname = sin
 -- "If only a name is left"
 unfoldable pub onlyName : Attributes → Bool
 unfolding all nonEmpty
-onlyName a = all (λ s. not (nonEmpty s)) (take 4 (a .single)) && not (nonEmpty (a .units)) && not (nonEmpty (a .dds))
+onlyName a = all (λ s. not (nonEmpty s)) (take ownLevels (a .single)) && not (nonEmpty (a .units)) && not (nonEmpty (a .dds))
 
 unfoldable pub writesShort : Attributes → Bool
 unfolding onlyName isShort nameIn singleOf

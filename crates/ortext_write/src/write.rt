@@ -19,9 +19,10 @@ use oraddr::value::Value;
 use ortext_name::name::is_short;
 use ortext_name::name::put_name;
 use ortext_segments::keys::DD_KEY;
-use ortext_segments::keys::KEYS;
 use ortext_segments::keys::OU_KEY;
+use ortext_segments::keys::PN_KEY;
 use ortext_segments::keys::SHORT_KEYS;
+use ortext_segments::keys::key_name;
 use ortext_segments::scan::is_stop;
 ghost use mathlib.Core.Path.{_≡_};
 ghost use mathlib.Core.Bool.{not};
@@ -32,12 +33,12 @@ ghost use lib.ListN.{drop, getD, length, take};
 ghost use Rattle.chars.specs.Lists.{all, nonEmpty};
 ghost use Rattle.chars.specs.Write.{Wrote};
 ghost use Rattle.oraddr.specs.View.{ddView, ddsView, unitView, unitsView, valueView, view};
-ghost use Rattle.ortext_segments.specs.Keys.{keys, OU-KEY};
+ghost use Rattle.ortext_segments.specs.Keys.{OU-KEY, PN-KEY, keyCount, keys, ownLevels, singleCount};
 ghost use Rattle.ortext_name.specs.Name.{isShort, nameText};
 ghost use Rattle.ortext_write.specs.Write.{ddSegment, hasShort, joined, keyValue, localText, longDd, onlyName, order, plainSegment, quoted, recordText, remaining, segmentText, segmentsAt, segmentsIn, writesShort};
 
-// The order in which record text is written, by the numbers of the keys.
-const ORDER: [usize; 10] = [DD_KEY, G, I, S, GQ, OU_KEY, O, PRMD, ADMD, C];
+// The order in which record text is written, by the numbers of the keys: those before PN, which is read only.
+const ORDER: [usize; PN_KEY] = [DD_KEY, G, I, S, GQ, OU_KEY, O, PRMD, ADMD, C];
 
 // Writes a character, with `$` before a slash or an equals sign.
 fn put_char(dst: &mut [u8], at: usize, b: u8) -> usize
@@ -69,11 +70,11 @@ fn put_quoted(dst: &mut [u8], at: usize, text: &[u8]) -> usize
 
 // Writes the key with the number k.
 fn put_key_name(dst: &mut [u8], at: usize, k: usize) -> usize
-    requires { ⌜ k < 12 ⌝ }
+    requires { ⌜ k < keyCount ⌝ }
     requires { ⌜ at + length (getD keys k []) ≤ length (now dst) ⌝ }
     ensures { λ r. ⌜ Wrote (now (dst .entry)) at (getD keys k []) r (now (dst .exit)) ⌝ }
 {
-    let name = KEYS[k];
+    let name = key_name(k);
     let n = name.len;
     let bytes = name.bytes;
     put(dst, at, &bytes[..n])
@@ -81,7 +82,7 @@ fn put_key_name(dst: &mut [u8], at: usize, k: usize) -> usize
 
 // Writes a slash, the key with the number k, an equals sign and a quoted value.
 fn put_segment(dst: &mut [u8], at: usize, k: usize, value: &[u8]) -> usize
-    requires { ⌜ k < 12 ⌝ }
+    requires { ⌜ k < keyCount ⌝ }
     requires { ⌜ at + length (keyValue (getD keys k []) (now value)) ≤ length (now dst) ⌝ }
     ensures { λ r. ⌜ Wrote (now (dst .entry)) at (keyValue (getD keys k []) (now (value .entry))) r (now (dst .exit)) ⌝ }
 {
@@ -95,7 +96,7 @@ fn put_segment(dst: &mut [u8], at: usize, k: usize, value: &[u8]) -> usize
 fn is_short_kind(kind: &[u8]) -> bool
     ensures { λ r. ⌜ r ≡ hasShort keys (now (kind .entry)) ⌝ }
 {
-    let name = KEYS[SHORT_KEYS];
+    let name = key_name(SHORT_KEYS);
     let n = name.len;
     let bytes = name.bytes;
     same_text(&bytes[..n], kind)
@@ -180,7 +181,7 @@ fn put_units(dst: &mut [u8], at: usize, units: Units, from: usize) -> usize
 
 // Writes an attribute that a record has once, if it is there.
 fn put_single(dst: &mut [u8], at: usize, rec: Record, k: usize) -> usize
-    requires { ⌜ k < 8 ⌝ }
+    requires { ⌜ k < singleCount ⌝ }
     requires { ⌜ at + length (joined keys (segmentsAt (view rec) k)) ≤ length (now dst) ⌝ }
     ensures { λ r. ⌜ Wrote (now (dst .entry)) at (joined keys (segmentsAt (view rec) k)) r (now (dst .exit)) ⌝ }
 {
@@ -195,7 +196,7 @@ fn put_single(dst: &mut [u8], at: usize, rec: Record, k: usize) -> usize
 
 // How many units are among the first n levels.
 fn units_out(n: usize) -> usize
-    ensures { λ r. ⌜ r ≡ n - 4 ⌝ }
+    ensures { λ r. ⌜ r ≡ n - ownLevels ⌝ }
 {
     if n < OWN_LEVELS {
         return 0;
@@ -205,7 +206,7 @@ fn units_out(n: usize) -> usize
 
 // Whether the attribute with the number k is one of the first n levels.
 fn is_out(k: usize, n: usize) -> bool
-    ensures { λ r. ⌜ r ≡ ltb k (min n 4) ⌝ }
+    ensures { λ r. ⌜ r ≡ ltb k (min n ownLevels) ⌝ }
 {
     if k < OWN_LEVELS {
         return k < n;
@@ -215,7 +216,7 @@ fn is_out(k: usize, n: usize) -> bool
 
 // Writes what the record has for one key, its first `from` levels left out.
 fn put_key(dst: &mut [u8], at: usize, rec: Record, from: usize, k: usize) -> usize
-    requires { ⌜ k < 10 ⌝ }
+    requires { ⌜ k < PN-KEY ⌝ }
     requires { ⌜ at + length (joined keys (segmentsAt (remaining from (view rec)) k)) ≤ length (now dst) ⌝ }
     ensures { λ r. ⌜ Wrote (now (dst .entry)) at (joined keys (segmentsAt (remaining from (view rec)) k)) r (now (dst .exit)) ⌝ }
 {
@@ -240,7 +241,7 @@ fn put_keys(dst: &mut [u8], at: usize, rec: Record, from: usize) -> usize
 {
     let mut next = at;
     let mut i = 0;
-    while i < 10 {
+    while i < PN_KEY {
         next = put_key(dst, next, rec, from, ORDER[i]);
         i += 1;
     }
@@ -259,7 +260,7 @@ pub fn write_text(dst: &mut [u8], at: usize, rec: Record, from: usize) -> usize
 
 // Whether the first four levels are empty when the first `from` are left out.
 fn is_own_empty(rec: Record, from: usize) -> bool
-    ensures { λ r. ⌜ r ≡ all (λ s. not (nonEmpty s)) (take 4 (remaining from (view rec) .single)) ⌝ }
+    ensures { λ r. ⌜ r ≡ all (λ s. not (nonEmpty s)) (take ownLevels (remaining from (view rec) .single)) ⌝ }
 {
     let mut k = from;
     while k < OWN_LEVELS {

@@ -21,11 +21,12 @@ use Rattle.oraddr.specs.Canonical.{canonicalRecord, isDd, isUnit}
 use Rattle.oraddr.specs.View.{ddInRange, ddsInRange, emptyRecord, inRange, singlesInRange, singlesView, unitsInRange, valueOf, valueView, view}
 use Rattle.oraddr.specs.declared.record.Record.{Record}
 use Rattle.oraddr.proofs.Laws.Made.{Made, dd-count, made-empty, made-single, made-unit, single-length, unit-count}
-use Rattle.ortext_read.specs.Apply.{Reading, addAll, addDds, addNamed, addSingles, addUnits, again, andThen, applied, complete, finish, hasEmpty, hasRepeated, hasUnknown, nameAlone, named, nameOf, namedAgain, pnMeets, read, readAsName, readLocal, refused, unread, withName}
+use Rattle.ortext_read.specs.Apply.{Reading, addAll, addNamed, again, applied, complete, finish, hasEmpty, hasRepeated, hasUnknown, nameAlone, named, nameOf, namedAgain, pnMeets, read, readAsName, readLocal, refused, unread, withName}
+use Rattle.ortext_build.specs.Adding.{addDds, addSingles, addUnits, andThen}
 use Rattle.ortext_segments.specs.Keys.{keys}
 use Rattle.ortext_name.specs.Name.{Name, readName}
 use Rattle.ortext_segments.specs.Segments.{Segment, readSegments}
-use Rattle.ortext_read.proofs.Laws.Adding.{dds-few, singles-kept, singles-skip, singles-some, then-done, then-is, units-few}
+use Rattle.ortext_build.proofs.Laws.Adding.{dds-few, singles-kept, singles-skip, singles-some, then-done, then-is, units-few}
 use Rattle.ortext_read.proofs.Laws.Apply as apply
 use Rattle.ortext_read.proofs.Laws.Apply.{Fits, all-added, complete-lacks, over}
 use Rattle.mailaddr.specs.Answers.{shaped, shaping}

@@ -16,7 +16,7 @@ use lib.Seq.{append-snoc, drop-append-add, drop-cons, drop-drop, sets, take-appe
 use Rattle.chars.specs.Lists.{all, first, member, nonEmpty}
 use Rattle.chars.specs.Class.{between, isLetter}
 use Rattle.chars.specs.Parts.{run}
-use Rattle.chars.proofs.Laws.Lists.{all-append, and-both, and-left, and-right, by-test, or-cases, true-not-false}
+use Rattle.chars.proofs.Laws.Lists.{all-append, and-left, and-right, by-test, or-cases, true-not-false}
 use Rattle.chars.proofs.Laws.Seq.{some-append, some-length}
 use Rattle.ortext_name.specs.Name.{Name, afterGiven, afterInitials, dotAllowed, dotted, givenOf, givenShort, givenText, hasGiven, initialsOf, isShort, nameText, readName}
 use Rattle.ortext_name.specs.Places.{givenEnd, lettersAt, nameAt}
@@ -109,9 +109,6 @@ letters-of (x ∷ y ∷ s) =
     by-test (isLetter x && eqb y 46)
     (λ e. rw (e, and-left (isLetter x) (eqb y 46) e) (letters-of s))
     (λ e. rw e)
-
-pub initials-letters : (s : List ℕ) (n : Name) → readName s ≡ some n → all isLetter (n .initials) ≡ true
-initials-letters s n h = rw (read-is s n h .0) (letters-of (afterGiven s))
 
 given-of-short : (s : List ℕ) → givenShort (givenOf s) ≡ true
 unfolding givenOf givenShort nonEmpty
@@ -266,30 +263,6 @@ module _ (p : ℕ → Bool) where
   unfolding nameText
   name-all h n a b c =
       rw (all-append p (givenText (n .given) ++ dotted (n .initials)) (n .surname), all-append p (givenText (n .given)) (dotted (n .initials)), all-given h (n .given) a, all-dotted h (n .initials), b, c)
-
-  all-undotted : (s : List ℕ) → all p (dotted s) ≡ true → all p s ≡ true
-  unfolding all dotted
-  all-undotted [] h = refl
-  all-undotted (x ∷ s) h =
-      and-both (and-left (p x) (p 46 && all p (dotted s)) h) (all-undotted s (and-right (p 46) (all p (dotted s)) (and-right (p x) (p 46 && all p (dotted s)) h)))
-
-  all-given-of : (g : List ℕ) → all p (givenText g) ≡ true → all p g ≡ true
-  unfolding all givenText nonEmpty
-  all-given-of [] h = refl
-  all-given-of (x ∷ g) h = and-left (all p (x ∷ g)) (all p (46 ∷ [])) (sym (all-append p (x ∷ g) (46 ∷ [])) ∙ h)
-
-  -- the pieces of a text have what all of it has
-  pub pieces-all : (n : Name) → all p (nameText n) ≡ true → (all p (n .given) ≡ true) × (all p (n .initials) ≡ true) × (all p (n .surname) ≡ true)
-  unfolding nameText
-  pieces-all n h =
-      let g = givenText (n .given) in
-      let d = dotted (n .initials) in
-      let k = sym (all-append p (g ++ d) (n .surname)) ∙ h in
-      let j = sym (all-append p g d) ∙ and-left (all p (g ++ d)) (all p (n .surname)) k in
-      (all-given-of (n .given) (and-left (all p g) (all p d) j), all-undotted (n .initials) (and-right (all p g) (all p d) j), and-right (all p (g ++ d)) (all p (n .surname)) k)
-
-  pub read-all : (s : List ℕ) (n : Name) → readName s ≡ some n → all p s ≡ true → (all p (n .given) ≡ true) × (all p (n .initials) ≡ true) × (all p (n .surname) ≡ true)
-  read-all s n r h = pieces-all n (rw (name-text s n r) h)
 
 -- ---- where the pieces of a text stand
 

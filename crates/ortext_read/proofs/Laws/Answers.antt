@@ -1,7 +1,7 @@
 -- What the readers' answers stand for, and the end of a reading by what was added.
 -- Assumes nothing.
 use mathlib.Core.Path.{_≡_, refl, sym, ap, _∙_}
-use mathlib.Core.Bool.{Bool, true, false, not, _&&_, _||_, cond, and-false}
+use mathlib.Core.Bool.{Bool, true, false, not, _&&_, _||_, cond}
 use mathlib.Core.List.{List, [], _∷_}
 use mathlib.Core.Option.{Option, none, some}
 use Prim.Native.Nat.{ℕ, _<_}
@@ -18,13 +18,14 @@ use Rattle.oraddr.specs.View.{view}
 use Rattle.oraddr.specs.Add.{Outcome, addSingle}
 use Rattle.oraddr.specs.declared.record.Record.{Record}
 use Rattle.ortext_read.proofs.Laws.Apply.{complete-has}
-use Rattle.ortext_read.specs.Answers.{answered, reading}
+use Rattle.ortext_read.specs.Answers.{answered, reading, readHeld}
 use Rattle.ortext_read.specs.Apply as apply
-use Rattle.ortext_read.specs.Apply.{addAll, addDds, addNamed, addSingles, addUnits, again, complete, finish, nameAlone, orName, read, readAsName, readLocal, readText, refused, unread}
+use Rattle.ortext_read.specs.Apply.{addAll, addNamed, again, complete, finish, nameAlone, orName, read, readAsName, readLocal, readText, refused, unread}
+use Rattle.ortext_build.specs.Adding.{addDds, addSingles, addUnits, addHeld, addName, done, start}
 use Rattle.ortext_segments.specs.Keys.{keys}
 use Rattle.ortext_name.specs.Name.{Name, readName}
-use Rattle.ortext_read.specs.Named.{addHeld, addName, done, isBeside, readHeld, start}
-use Rattle.ortext_read.specs.declared.named.Named.{Named}
+use Rattle.ortext_named.specs.Named.{isBeside}
+use Rattle.ortext_named.specs.declared.named.Named.{Named}
 use Rattle.ortext_read.specs.declared.read.Answer.{Answer}
 use Rattle.ortext_read.specs.declared.read.Answer.the-variants.{Again, Done, Refused, Unread}
 use Rattle.ortext_read.specs.declared.read.Reading.{Reading}

@@ -1,18 +1,18 @@
 -- Laws of the fold of additions: what a record is made of once attributes are added to it, and completed.
 -- Assumes nothing.
 use mathlib.Core.Path.{_≡_, refl, sym, ap, _∙_}
-use mathlib.Core.Bool.{Bool, true, false, _&&_, not, cond, and-false}
+use mathlib.Core.Bool.{Bool, true, false, _&&_, cond, and-false}
 use mathlib.Core.List.{List, [], _∷_, _++_, append-assoc, append-nil}
 use Prim.Native.Nat.{ℕ, suc, _+_, _≤_, _<_}
 use native.Mathlib.Omega.{arith}
-use borrow.Author.Tests.{eq-eqb, ltb-true, ltb-false}
+use borrow.Author.Tests.{ltb-true, ltb-false}
 use lib.Dec.{eqb, ltb}
 use lib.ListN.{length, getD, set, length-append}
 use lib.Seq.{getD-set-other, set-out}
 use Rattle.chars.specs.Lists.{all, nonEmpty}
 use Rattle.chars.proofs.Laws.Lists.{and-left, and-right, by-test, or-right}
 use Rattle.chars.specs.Case.{agree, equalText}
-use Rattle.chars.proofs.Laws.Seq.{absent-is, no-length, some-test}
+use Rattle.chars.proofs.Laws.Seq.{absent-is, some-test}
 use Rattle.oraddr.specs.Bounds.{C, ADMD, isSpace, isValue, most, rule}
 use Rattle.oraddr.specs.Attributes.{Attributes, Dd, singleOf}
 use Rattle.oraddr.specs.Canonical.{allKept, isDd, isUnit, kept}
@@ -22,7 +22,10 @@ use Rattle.oraddr.specs.declared.record.Record.{Record}
 use Rattle.oraddr.proofs.Laws.Canonical.{kept-some}
 use Rattle.oraddr.proofs.Laws.Made.{Made, made-single, made-unit, made-dd, single-added, unit-added, dd-added}
 use Rattle.oraddr.proofs.Laws.View.{outcome-keeps}
-use Rattle.ortext_read.specs.Apply.{addAll, addDds, addSingles, addUnits, andThen, complete}
+use Rattle.ortext_segments.specs.Keys.{singleCount}
+use Rattle.ortext_build.proofs.Laws.Adding.{then-is}
+use Rattle.ortext_read.specs.Apply.{addAll, complete}
+use Rattle.ortext_build.specs.Adding.{addDds, addSingles, addUnits, andThen}
 
 -- what is absent is empty
 -- ---- what is added over what is there
@@ -70,19 +73,15 @@ pub record Holds (o : Outcome) (b : Attributes) : Type 0 where
   pub made : Made (o .record')
   pub shows : view (o .record') ≡ b
 
-then-is : (o : Outcome) (f : Record → Outcome) → o .number ≡ 0 → andThen o f ≡ f (o .record')
-unfolding andThen
-then-is o f h = rw (eq-eqb (o .number) 0 h)
-
 -- an addition past the eighth place changes nothing
 made-at : (r : Record) → Made r → (k : ℕ) (v : List ℕ) → Made (addSingle r k v .record')
 unfolding addSingle setSingle
 made-at r m k v =
-    by-test (ltb k 8)
-    (λ e. made-single r m k v (ltb-true k 8 e))
+    by-test (ltb k singleCount)
+    (λ e. made-single r m k v (ltb-true k singleCount e))
     (λ e. outcome-keeps Made (rule k v && eqb (getD (r .singles .values) k (valueOf []) .len) 0)
     (record { singles = record { values = set (r .singles .values) k (valueOf v) }; units = r .units; dds = r .dds }) r
-    (λ _. rw (set-out (r .singles .values) k (valueOf v) (omega (arith, m .shaped .values, ltb-false k 8 e))) m)
+    (λ _. rw (set-out (r .singles .values) k (valueOf v) (omega (arith, m .shaped .values, ltb-false k singleCount e))) m)
     m)
 
 module _ (o : Outcome) (b : Attributes) (h : Holds o b) where
@@ -199,51 +198,7 @@ all-added a r m f =
     rw (← merged-all (a .single) (b .single))
     (dds-added (a .dds) (addUnits (a .units) o) (record { single = b1 .single; units = b .units ++ a .units; dds = b .dds }) u (f .dds) (f .few-dds))
 
--- ---- a record stays as it is made, whatever is added
-
-then-made : (o : Outcome) (f : Record → Outcome) → Made (o .record') → ((r : Record) → Made r → Made (f r .record')) → Made (andThen o f .record')
-unfolding andThen
-then-made o f m g = by-test (eqb (o .number) 0) (λ e. rw e (g (o .record') m)) (λ e. rw e m)
-
-either-made : (t : Bool) (p q : Outcome) → Made (p .record') → Made (q .record') → Made (cond t p q .record')
-either-made true p q m n = m
-either-made false p q m n = n
-
-made-singles : (k : ℕ) (ss : List (List ℕ)) (o : Outcome) → Made (o .record') → Made (addSingles k ss o .record')
-unfolding addSingles
-made-singles k [] o m = m
-made-singles k (s ∷ ss) o m =
-    let next = andThen o (λ r. addSingle r k s) in
-    made-singles (suc k) ss (cond (nonEmpty s) next o)
-    (either-made (nonEmpty s) next o (then-made o (λ r. addSingle r k s) m (λ r q. made-at r q k s)) m)
-
-made-units : (ss : List (List ℕ)) (o : Outcome) → Made (o .record') → Made (addUnits ss o .record')
-unfolding addUnits
-made-units [] o m = m
-made-units (s ∷ ss) o m = made-units ss (andThen o (λ r. addUnit r s)) (then-made o (λ r. addUnit r s) m (λ r q. made-unit r q s))
-
-made-dds : (ds : List Dd) (o : Outcome) → Made (o .record') → Made (addDds ds o .record')
-unfolding addDds
-made-dds [] o m = m
-made-dds (d ∷ ds) o m =
-    made-dds ds (andThen o (λ r. addDd r (d .kind) (d .value)))
-    (then-made o (λ r. addDd r (d .kind) (d .value)) m (λ r q. made-dd r q (d .kind) (d .value)))
-
-pub made-all : (a : Attributes) (r : Record) → Made r → Made (addAll a r .record')
-unfolding addAll
-made-all a r m =
-    let o : Outcome = record { number = 0; record' = r } in
-    made-dds (a .dds) (addUnits (a .units) (addSingles 0 (a .single) o))
-    (made-units (a .units) (addSingles 0 (a .single) o) (made-singles 0 (a .single) o m))
-
 -- ---- completed
-
-pub made-complete : (r : Record) → Made r → Made (complete r)
-unfolding complete
-made-complete r m =
-    by-test (nonEmpty (singleOf (view r) C) && not (nonEmpty (singleOf (view r) ADMD)))
-    (λ e. rw e (made-at r m ADMD (32 ∷ [])))
-    (λ e. rw e m)
 
 pub complete-has : (r : Record) → nonEmpty (singleOf (view r) ADMD) ≡ true → complete r ≡ r
 unfolding complete

@@ -1,7 +1,7 @@
 -- What the places held say of the segments read so far, and that a further segment keeps it.
 -- Assumes nothing.
 use mathlib.Core.Path.{_≡_, refl, sym, ap, _∙_}
-use Prim.Native.Nat.{ℕ, zero, suc, _+_, _≤_, _<_, min}
+use Prim.Native.Nat.{ℕ, _+_, _≤_, _<_, min}
 use native.Mathlib.Numerals.{add-one}
 use native.Mathlib.Omega.{arith}
 use mathlib.Core.Bool.{true, false, not, _&&_, cond, and-false, and-true}
@@ -9,23 +9,24 @@ use mathlib.Core.List.{List, [], _∷_, _++_, append-assoc, map, map-append}
 use mathlib.Core.Option.{none}
 use borrow.Author.Tests.{eqb-true, eqb-false, ltb-false, ltb-true, not-false, not-true}
 use lib.Dec.{eqb, leb, ltb}
-use lib.ListN.{length, take, getD, replicate, set, length-append, length-map, length-set, length-take}
+use lib.ListN.{length, take, getD, set, length-append, length-map, length-take}
 use lib.Seq.{getD-set-other, getD-set-same, take-suc-set}
 use Rattle.chars.specs.Lists.{all, nonEmpty}
 use Rattle.chars.specs.Parts.{run}
 use Rattle.chars.proofs.Laws.Lists.{all-append, and-left, and-right, by-test, true-not-false}
 use Rattle.oraddr.specs.Bounds.{most}
-use Rattle.ortext_segments.specs.Keys.{DD-KEY, OU-KEY, PN-KEY}
+use Rattle.ortext_segments.specs.Keys.{DD-KEY, OU-KEY, PN-KEY, ownLevels, singleCount}
 use Rattle.ortext_name.specs.Name.{afterGiven, afterInitials, hasGiven, readName}
 use Rattle.ortext_segments.specs.Segments.{Segment, unknown}
 use Rattle.ortext_segments.specs.Scan.{Segmented, foundSegment, kindText, spanText}
 use Rattle.ortext_read.specs.Apply.{addNamed, again, ddsOf, nameOf, named, namedAgain, valueAt, valuesAt}
-use Rattle.ortext_read.specs.Named.{AllSound, Sound, ddAt, isAbsent, noSpan, nothing, placeAt, spoiled, takeFound, withDd, withFound, withOnce, withUnit}
+use Rattle.ortext_named.proofs.Laws.Sound.{getD-own, sound-found, sound-nothing}
+use Rattle.ortext_named.specs.Named.{AllSound, Sound, isAbsent, noSpan, nothing, placeAt, spoiled, takeFound, withDd, withFound, withOnce, withUnit}
+use Rattle.ortext_build.specs.Adding.{ddAt}
 use Rattle.ortext_segments.specs.declared.scan.Span.{Span}
 use Rattle.ortext_segments.specs.declared.scan.Found.{Found}
-use Rattle.ortext_read.specs.declared.named.DdPlaces.{DdPlaces}
-use Rattle.ortext_read.specs.declared.named.Named.{Named}
-use Rattle.ortext_read.proofs.Laws.Spans.{span-none}
+use Rattle.ortext_named.specs.declared.named.Named.{Named}
+use Rattle.ortext_build.proofs.Laws.Spans.{span-none}
 use Rattle.ortext_read.proofs.Laws.Values.{values-append, dds-append, values-here, values-other, dds-here, dds-other, Spoiled, none-refused, unknown-none, repeated-none, empty-none, nameless-none, many-units, many-dds, some-first}
 
 -- ---- the places and the segments
@@ -64,54 +65,10 @@ no-name gs rest e = rw e
 empty-first : (gs : List Segment) (k : ℕ) (rest : List (List ℕ)) → Once k → valuesAt k gs ≡ [] ∷ rest → named gs ≡ none
 unfolding all nonEmpty
 empty-first gs k rest o e =
-    by-test (ltb k 8)
-    (λ l. empty-none gs k (ltb-true k 8 l) (ap (all nonEmpty) e))
-    (λ l. let q : k ≡ PN-KEY = omega (arith, ltb-false k 8 l, o .low, o .no-unit, o .no-dd) in
+    by-test (ltb k singleCount)
+    (λ l. empty-none gs k (ltb-true k singleCount l) (ap (all nonEmpty) e))
+    (λ l. let q : k ≡ PN-KEY = omega (arith, ltb-false k singleCount l, o .low, o .no-unit, o .no-dd) in
     nameless-none gs (no-name gs rest (rw q at e)))
-
--- ---- the places are in the text
-
-each-set : {A : Type 0} (P : A → Type 0) (l : List A) (k : ℕ) (v d : A) → P v → ((j : ℕ) → P (getD l j d)) → (j : ℕ) → P (getD (set l k v) j d)
-each-set P [] k v d h f j = f j
-each-set P (x ∷ l) zero v d h f zero = h
-each-set P (x ∷ l) zero v d h f (suc j) = f (suc j)
-each-set P (x ∷ l) (suc k) v d h f zero = f zero
-each-set P (x ∷ l) (suc k) v d h f (suc j) = each-set P l k v d h (λ i. f (suc i)) j
-
-module _ (s : List ℕ) (m : Named) (h : AllSound s m) (f : Found) (v : Sound s (f .value)) (k : Sound s (f .kind)) where
-  sound-spoiled : AllSound s (spoiled m)
-  sound-spoiled = record { once-room = h .once-room; units-room = h .units-room; dds-room = h .dds-room; once = h .once; few-units = h .few-units; few-dds = h .few-dds; units = h .units; kinds = h .kinds; values = h .values }
-
-  sound-unit : AllSound s (withUnit m (f .value))
-  unfolding withUnit
-  sound-unit =
-      by-test (ltb (m .«unit_count») most)
-      (λ e. rw e (record { once-room = h .once-room; units-room = length-set (m .units) (m .«unit_count») (f .value) ∙ h .units-room; dds-room = h .dds-room; once = h .once; few-units = omega (arith, ltb-true (m .«unit_count») most e); few-dds = h .few-dds; units = each-set (Sound s) (m .units) (m .«unit_count») (f .value) noSpan v (h .units); kinds = h .kinds; values = h .values }))
-      (λ e. rw e sound-spoiled)
-
-  abbrev places : DdPlaces
-  places = record { kind = f .kind; value = f .value }
-
-  sound-dd : AllSound s (withDd m places)
-  unfolding withDd
-  sound-dd =
-      by-test (ltb (m .«dd_count») most)
-      (λ e. rw e (record { once-room = h .once-room; units-room = h .units-room; dds-room = length-set (m .dds) (m .«dd_count») places ∙ h .dds-room; once = h .once; few-units = h .few-units; few-dds = omega (arith, ltb-true (m .«dd_count») most e); units = h .units; kinds = each-set (λ d. Sound s (d .kind)) (m .dds) (m .«dd_count») places (record { kind = noSpan; value = noSpan }) k (h .kinds); values = each-set (λ d. Sound s (d .value)) (m .dds) (m .«dd_count») places (record { kind = noSpan; value = noSpan }) v (h .values) }))
-      (λ e. rw e sound-spoiled)
-
-  sound-once : AllSound s (withOnce m (f .key) (f .value))
-  unfolding withOnce
-  sound-once =
-      by-test (isAbsent (placeAt m (f .key)) && not (isAbsent (f .value)))
-      (λ e. rw e (record { once-room = length-set (m .once) (f .key) (f .value) ∙ h .once-room; units-room = h .units-room; dds-room = h .dds-room; once = each-set (Sound s) (m .once) (f .key) (f .value) noSpan v (h .once); few-units = h .few-units; few-dds = h .few-dds; units = h .units; kinds = h .kinds; values = h .values }))
-      (λ e. rw e sound-spoiled)
-
-  sound-found : AllSound s (withFound m f)
-  unfolding withFound
-  sound-found =
-      by-test (eqb (f .key) OU-KEY) (λ e. rw e sound-unit)
-      (λ e. by-test (eqb (f .key) DD-KEY) (λ d. rw (e, d) sound-dd)
-      (λ d. by-test (ltb (f .key) unknown) (λ l. rw (e, d, l) sound-once) (λ l. rw (e, d, l) sound-spoiled)))
 
 -- ---- a further segment whose key is no settled level's
 
@@ -233,9 +190,9 @@ module _ (s : List ℕ) (m : Named) (h : AllSound s m) (f : Found) (v : Sound s 
 
 -- ---- a further segment
 
-again-more : (n : ℕ) (gs : List Segment) (g : Segment) → namedAgain n (gs ++ g ∷ []) ≡ not (all (λ x. leb (min n 4) (x .key)) gs && leb (min n 4) (g .key))
+again-more : (n : ℕ) (gs : List Segment) (g : Segment) → namedAgain n (gs ++ g ∷ []) ≡ not (all (λ x. leb (min n ownLevels) (x .key)) gs && leb (min n ownLevels) (g .key))
 unfolding namedAgain all
-again-more n gs g = ap not (all-append (λ x. leb (min n 4) (x .key)) gs (g ∷ []) ∙ ap (λ b. all (λ x. leb (min n 4) (x .key)) gs && b) (and-true (leb (min n 4) (g .key))))
+again-more n gs g = ap not (all-append (λ x. leb (min n ownLevels) (x .key)) gs (g ∷ []) ∙ ap (λ b. all (λ x. leb (min n ownLevels) (x .key)) gs && b) (and-true (leb (min n ownLevels) (g .key))))
 
 found-again : (m : Named) (f : Found) → withFound m f .again ≡ m .again
 unfolding withFound withUnit withDd withOnce
@@ -249,8 +206,8 @@ unfolding takeFound foundSegment namedAgain
 held-more s n m gs from f h g =
     let v : Sound s (f .value) = record { inside = omega (arith, g .within, g .inside); half = g .half } in
     let k : Sound s (f .kind) = record { inside = omega (arith, g .kind-within, g .inside); half = g .kind-half } in
-    let all-high = all (λ x. leb (min n 4) (x .key)) gs in
-    let high = leb (min n 4) (f .key) in
+    let all-high = all (λ x. leb (min n ownLevels) (x .key)) gs in
+    let high = leb (min n ownLevels) (f .key) in
     by-test high
     (λ e. rw e (record {
       sound = sound-found s m (h .sound) f v k;
@@ -265,30 +222,11 @@ held-more s n m gs from f h g =
 
 -- ---- the first and the last
 
-getD-own : {A : Type 0} (n j : ℕ) (d : A) → getD (replicate n d) j d ≡ d
-getD-own zero j d = refl
-getD-own (suc n) zero d = refl
-getD-own (suc n) (suc j) d = getD-own n j d
-
-no-sound : (s : List ℕ) → Sound s noSpan
-no-sound s = record { inside = omega arith; half = omega arith }
-
 pub held-nothing : (s : List ℕ) (n : ℕ) → Held s n nothing []
 unfolding namedAgain all valuesAt ddsOf
 held-nothing s n =
     record {
-      sound =
-          record {
-            once-room = refl;
-            units-room = refl;
-            dds-room = refl;
-            once = λ k. rw (getD-own unknown k noSpan) (no-sound s);
-            few-units = omega arith;
-            few-dds = omega arith;
-            units = λ k. rw (getD-own most k noSpan) (no-sound s);
-            kinds = λ k. rw (ap (λ d. d .kind) (getD-own {A = DdPlaces} most k (record { kind = noSpan; value = noSpan }))) (no-sound s);
-            values = λ k. rw (ap (λ d. d .value) (getD-own {A = DdPlaces} most k (record { kind = noSpan; value = noSpan }))) (no-sound s);
-          };
+      sound = sound-nothing s;
       again = refl;
       fair = λ a. record {
         bad = λ e. true-not-false true refl (sym e);

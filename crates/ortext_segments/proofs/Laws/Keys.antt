@@ -17,7 +17,7 @@ use Rattle.chars.specs.Case.{sameText}
 use Rattle.chars.proofs.Laws.Lists.{all-at, all-weaken, and-left, and-right, by-test, true-not-false}
 use Rattle.chars.proofs.Laws.Parts.{clear}
 use Rattle.ortext_segments.specs.declared.keys.KeyName.{KeyName}
-use Rattle.ortext_segments.specs.Keys.{Keys, keys, keyNumber}
+use Rattle.ortext_segments.specs.Keys.{Keys, Spells, keyCount, keyNumber, keys}
 use Rattle.ortext_segments.specs.Segments.{keyRun}
 
 -- ---- the table of the code
@@ -30,7 +30,7 @@ unfoldable pub table : List KeyName
 unfolding named keys bytes
 table = map named keys
 
-pub key-count : length keys ≡ 12
+pub key-count : length keys ≡ keyCount
 unfolding keys
 key-count = refl
 
@@ -39,15 +39,14 @@ getD-inside [] i d e h = absurd (not-suc-le-zero h)
 getD-inside (x ∷ s) zero d e h = refl
 getD-inside (x ∷ s) (suc i) d e h = getD-inside s i d e (le-of-suc-le-suc h)
 
-module _ (k : ℕ) (d : KeyName) (h : k < 12) where
-  pub name-fits : getD table k d .len ≤ length (getD table k d .bytes)
-  unfolding table all
-  name-fits = leb-true (getD table k d .len) (length (getD table k d .bytes)) (all-at (λ n. leb (n .len) (length (n .bytes))) table k d refl h)
-
-  -- what an entry spells
-  pub name-text : take (getD table k d .len) (getD table k d .bytes) ≡ getD keys k []
-  unfolding table keys
-  name-text = sym (List·getD-map (λ (n : KeyName). take (n .len) (n .bytes)) table k d) ∙ getD-inside keys k (take (d .len) (d .bytes)) [] h
+-- what an entry spells
+pub entry-spells : (k : ℕ) (d : KeyName) → k < keyCount → Spells (getD table k d) (getD keys k [])
+unfolding table keys all
+entry-spells k d h =
+    record {
+      fits = leb-true (getD table k d .len) (length (getD table k d .bytes)) (all-at (λ n. leb (n .len) (length (n .bytes))) table k d refl h);
+      text = sym (List·getD-map (λ (n : KeyName). take (n .len) (n .bytes)) table k d) ∙ getD-inside keys k (take (d .len) (d .bytes)) [] h;
+    }
 
 -- ---- the number of a key
 

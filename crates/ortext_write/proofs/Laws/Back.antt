@@ -26,7 +26,7 @@ use Rattle.oraddr.proofs.Laws.Canonical.{canonical-parts, canonical-same, same-
 use Rattle.oraddr.proofs.Laws.Made.{Made, made-empty}
 use Rattle.oraddr.proofs.Laws.Same.{attributes-trans, dd-refl}
 use Rattle.oraddr.proofs.Laws.View.{view-empty}
-use Rattle.ortext_segments.specs.Keys.{Keys, SHORT-KEYS, keyNumber, keys}
+use Rattle.ortext_segments.specs.Keys.{Keys, SHORT-KEYS, keyNumber, keys, ownLevels, singleCount}
 use Rattle.ortext_name.specs.Name.{Name, isShort, nameText}
 use Rattle.ortext_segments.specs.Segments.{Segment}
 use Rattle.ortext_read.specs.Apply.{Reading, addAll, addNamed, applied, finish, nameAlone, orName, read, readAsName, readLocal, readText}
@@ -98,9 +98,9 @@ pub record Settled (n : ℕ) (st : List (List ℕ)) (a : Attributes) (r : Record
   pub made : Made r
   pub count : length st ≡ n
   pub few : n ≤ 8
-  pub reach : n - 4 ≤ length (a .units)
+  pub reach : n - ownLevels ≤ length (a .units)
   pub same : agree sameText st (take n (levels a)) ≡ true
-  pub shows : view r ≡ record { single = take 4 st ++ replicate (8 - length (take 4 st)) []; units = drop 4 st; dds = [] }
+  pub shows : view r ≡ record { single = take ownLevels st ++ replicate (8 - length (take ownLevels st)) []; units = drop ownLevels st; dds = [] }
 
 -- where no level is settled, as at the gateway
 pub settled-none : (a : Attributes) → Settled 0 [] a emptyRecord
@@ -114,75 +114,75 @@ module _ {A : Type 0} where
   take-min (suc i) (suc j) [] = sym (take-nil (min (suc i) (suc j)))
   take-min (suc i) (suc j) (x ∷ s) = ap (λ t. x ∷ t) (take-min i j s) ∙ take-same (suc (min i j)) (min (suc i) (suc j)) (x ∷ s) (omega arith)
 
-module _ (n : ℕ) (a : Attributes) (l : length (a .single) ≡ 8) where
-  own : length (take 4 (a .single)) ≡ 4
+module _ (n : ℕ) (a : Attributes) (l : length (a .single) ≡ singleCount) where
+  own : length (take ownLevels (a .single)) ≡ 4
   own = length-take-le 4 (a .single) (omega arith)
 
   -- the first four levels, and the others
-  own-levels : take 4 (take n (levels a)) ≡ take (min n 4) (a .single)
+  own-levels : take 4 (take n (levels a)) ≡ take (min n ownLevels) (a .single)
   unfolding levels
   own-levels =
       take-min 4 n (levels a)
-      ∙ take-append-le (min 4 n) (take 4 (a .single)) (take most (a .units ++ replicate most [])) (omega (arith, own))
+      ∙ take-append-le (min 4 n) (take ownLevels (a .single)) (take most (a .units ++ replicate most [])) (omega (arith, own))
       ∙ take-take (min 4 n) 4 (a .single) (omega arith)
-      ∙ take-same (min 4 n) (min n 4) (a .single) (omega arith)
+      ∙ take-same (min 4 n) (min n ownLevels) (a .single) (omega arith)
 
-  unit-levels : n ≤ 8 → n - 4 ≤ length (a .units) → drop 4 (take n (levels a)) ≡ take (n - 4) (a .units)
+  unit-levels : n ≤ 8 → n - ownLevels ≤ length (a .units) → drop 4 (take n (levels a)) ≡ take (n - ownLevels) (a .units)
   unfolding levels
   unit-levels h k =
       drop-take 4 n (levels a)
-      ∙ ap (take (n - 4)) (drop-at (take 4 (a .single)) (take most (a .units ++ replicate most [])) 4 own)
-      ∙ take-take (n - 4) most (a .units ++ replicate most []) (omega arith)
-      ∙ take-append-le (n - 4) (a .units) (replicate most []) k
+      ∙ ap (take (n - ownLevels)) (drop-at (take ownLevels (a .single)) (take most (a .units ++ replicate most [])) 4 own)
+      ∙ take-take (n - ownLevels) most (a .units ++ replicate most []) (omega arith)
+      ∙ take-append-le (n - ownLevels) (a .units) (replicate most []) k
 
 -- the settled levels, and behind them what is left of a
 abbrev backed : ℕ → List (List ℕ) → Attributes → Attributes
 backed n st a =
     record {
-      single = take 4 st ++ drop (min n 4) (a .single);
-      units = drop 4 st ++ drop (n - 4) (a .units);
+      single = take ownLevels st ++ drop (min n ownLevels) (a .single);
+      units = drop ownLevels st ++ drop (n - ownLevels) (a .units);
       dds = a .dds;
     }
 
-module _ {n : ℕ} {st : List (List ℕ)} {a : Attributes} {r : Record} (q : Settled n st a r) (l : length (a .single) ≡ 8) where
-  front-length : length (take 4 st) ≡ min n 4
-  front-length = omega (arith, length-take 4 st, q .count)
+module _ {n : ℕ} {st : List (List ℕ)} {a : Attributes} {r : Record} (q : Settled n st a r) (l : length (a .single) ≡ singleCount) where
+  front-length : length (take ownLevels st) ≡ min n ownLevels
+  front-length = omega (arith, length-take ownLevels st, q .count)
 
-  rest-length : length (drop (min n 4) (a .single)) ≡ 8 - length (take 4 st)
-  rest-length = omega (arith, front-length, length-drop (min n 4) (a .single))
+  rest-length : length (drop (min n ownLevels) (a .single)) ≡ 8 - length (take ownLevels st)
+  rest-length = omega (arith, front-length, length-drop (min n ownLevels) (a .single))
 
   backed-same : sameAttributes (backed n st a) a ≡ true
   unfolding sameAttributes
   backed-same =
       and-both
       (and-both
-      (agree-front sameText same-refl (min n 4) (take 4 st) (a .single)
-      (subst (λ t. agree sameText (take 4 st) t ≡ true) (own-levels n a l) (agree-take sameText 4 st (take n (levels a)) (q .same))))
-      (agree-front sameText same-refl (n - 4) (drop 4 st) (a .units)
-      (subst (λ t. agree sameText (drop 4 st) t ≡ true) (unit-levels n a l (q .few) (q .reach)) (agree-drop sameText 4 st (take n (levels a)) (q .same)))))
+      (agree-front sameText same-refl (min n ownLevels) (take ownLevels st) (a .single)
+      (subst (λ t. agree sameText (take ownLevels st) t ≡ true) (own-levels n a l) (agree-take sameText 4 st (take n (levels a)) (q .same))))
+      (agree-front sameText same-refl (n - ownLevels) (drop ownLevels st) (a .units)
+      (subst (λ t. agree sameText (drop ownLevels st) t ≡ true) (unit-levels n a l (q .few) (q .reach)) (agree-drop sameText 4 st (take n (levels a)) (q .same)))))
       (agree-refl sameDd dd-refl (a .dds))
 
   over-settled : over (remaining n a) (view r) ≡ backed n st a
   unfolding over remaining
   over-settled =
-      let p = take 4 st in
-      let x = drop (min n 4) (a .single) in
+      let p = take ownLevels st in
+      let x = drop (min n ownLevels) (a .single) in
       rw (q .shows)
-      (ap (λ (s : List (List ℕ)). record { single = s; units = drop 4 st ++ drop (n - 4) (a .units); dds = a .dds })
+      (ap (λ (s : List (List ℕ)). record { single = s; units = drop ownLevels st ++ drop (n - ownLevels) (a .units); dds = a .dds })
       (ap₂ (λ i j. merged (replicate i [] ++ x) (p ++ replicate j [])) (sym front-length) (sym rest-length) ∙ merged-left p x))
 
   left-fits : canonical a ≡ true → Fits (remaining n a) (view r)
   unfolding remaining singleOf
   left-fits h =
-      let p = take 4 st in
-      let x = drop (min n 4) (a .single) in
+      let p = take ownLevels st in
+      let x = drop (min n ownLevels) (a .single) in
       let c = canonical-parts a h in
       rw (q .shows)
       (record {
-        singles = left-kept (min n 4) 0 (a .single) (c .singles);
+        singles = left-kept (min n ownLevels) 0 (a .single) (c .singles);
         free = λ k e. left-free p x (8 - length p) k (ap (λ i. nonEmpty (getD (replicate i [] ++ x) k [])) front-length ∙ e);
-        units = all-drop isUnit (n - 4) (a .units) (c .units);
-        few-units = omega (arith, length-drop 4 st, length-drop (n - 4) (a .units), c .few-units, q .count, q .reach);
+        units = all-drop isUnit (n - ownLevels) (a .units) (c .units);
+        few-units = omega (arith, length-drop ownLevels st, length-drop (n - ownLevels) (a .units), c .few-units, q .count, q .reach);
         dds = c .dds;
         few-dds = omega (arith, c .few-dds);
       })
@@ -195,7 +195,7 @@ pub record ReadsAs (o : Reading) (a : Attributes) : Type 0 where
   pub made : Made result
   pub same : sameAttributes (view result) a ≡ true
 
-module _ {n : ℕ} {st : List (List ℕ)} {a : Attributes} {r : Record} (q : Settled n st a r) (l : length (a .single) ≡ 8) (h : canonical a ≡ true) where
+module _ {n : ℕ} {st : List (List ℕ)} {a : Attributes} {r : Record} (q : Settled n st a r) (l : length (a .single) ≡ singleCount) (h : canonical a ≡ true) where
   -- what is left, added to what is settled; ADMD is there, so completing changes nothing
   left-added : ReadsAs (addNamed r (some (remaining n a))) a
   unfolding addNamed finish
@@ -256,30 +256,30 @@ unfolding isShort
 short-no-gq m gq h =
     absent-is gq (by-test (nonEmpty gq) (λ e. true-not-false true refl (sym (rw (e, and-false) at h))) (λ e. e))
 
-last-four : (s : List (List ℕ)) → length s ≡ 8 → drop 4 s ≡ getD s 4 [] ∷ getD s 5 [] ∷ getD s 6 [] ∷ getD s 7 [] ∷ []
+last-four : (s : List (List ℕ)) → length s ≡ 8 → drop ownLevels s ≡ getD s 4 [] ∷ getD s 5 [] ∷ getD s 6 [] ∷ getD s 7 [] ∷ []
 last-four s l =
     rw (drop-cons s 4 [] (omega arith), drop-cons s 5 [] (omega arith), drop-cons s 6 [] (omega arith), drop-cons s 7 [] (omega arith), drop-of-length-le s {i = 8} (omega arith))
 
 -- where only a name is left and it is short, the name says all
-only-name : (b : Attributes) → length (b .single) ≡ 8 → writesShort b ≡ true → nameAlone (nameIn b) ≡ b
+only-name : (b : Attributes) → length (b .single) ≡ singleCount → writesShort b ≡ true → nameAlone (nameIn b) ≡ b
 unfolding writesShort onlyName nameAlone nameIn singleOf
 only-name b l h =
     let s = b .single in
     let m = nameIn b in
-    let first = all (λ v. not (nonEmpty v)) (take 4 s) in
+    let first = all (λ v. not (nonEmpty v)) (take ownLevels s) in
     let p = and-three first (not (nonEmpty (b .units))) (not (nonEmpty (b .dds))) (and-left (onlyName b) (isShort m (getD s 7 [])) h) in
     let gq = short-no-gq m (getD s 7 []) (and-right (onlyName b) (isShort m (getD s 7 [])) h) in
-    let four : take 4 s ≡ replicate 4 [] = all-absent (take 4 s) (p .0) ∙ ap (λ k. replicate k []) (length-take-le 4 s (omega arith)) in
+    let four : take ownLevels s ≡ replicate 4 [] = all-absent (take ownLevels s) (p .0) ∙ ap (λ k. replicate k []) (length-take-le 4 s (omega arith)) in
     let singles : nameAlone m .single ≡ s =
     ap (λ (v : List ℕ). [] ∷ [] ∷ [] ∷ [] ∷ m .surname ∷ m .given ∷ m .initials ∷ v ∷ []) (sym gq)
     ∙ ap₂ (λ x y. x ++ y) (sym four) (sym (last-four s l))
-    ∙ take-append-drop 4 s in
+    ∙ take-append-drop ownLevels s in
     ap₂ (λ x y. record { single = x; units = y; dds = [] }) singles (sym (absent-is (b .units) (not-true (nonEmpty (b .units)) (p .1))))
     ∙ ap (λ (z : List Dd). record { single = s; units = b .units; dds = z }) (sym (absent-is (b .dds) (not-true (nonEmpty (b .dds)) (p .2))))
 
 -- ---- the theorem
 
-module _ (ks : Keys) (n : ℕ) (st : List (List ℕ)) (a : Attributes) (r : Record) (q : Settled n st a r) (l : length (a .single) ≡ 8) (h : canonical a ≡ true) where
+module _ (ks : Keys) (n : ℕ) (st : List (List ℕ)) (a : Attributes) (r : Record) (q : Settled n st a r) (l : length (a .single) ≡ singleCount) (h : canonical a ≡ true) where
   -- record text gives what is left, the types of the DDs perhaps in other letters
   by-text : goodKeys ks ≡ true → ReadsAs (readLocal ks n r (recordText ks (remaining n a))) a
   unfolding levels remaining spelledAttributes readLocal orName
@@ -327,6 +327,6 @@ module _ (ks : Keys) (n : ℕ) (st : List (List ℕ)) (a : Attributes) (r : Reco
       (λ e. subst (λ (t : Bool). ReadsAs (readLocal ks n r (cond t (nameText (nameIn b)) (recordText ks b))) a) (sym e) (by-text good))
 
 -- the same of the keys of document 01
-pub local-back : (n : ℕ) (st : List (List ℕ)) (a : Attributes) (r : Record) → Settled n st a r → length (a .single) ≡ 8 → canonical a ≡ true
+pub local-back : (n : ℕ) (st : List (List ℕ)) (a : Attributes) (r : Record) → Settled n st a r → length (a .single) ≡ singleCount → canonical a ≡ true
     → ReadsAs (readLocal keys n r (localText keys (remaining n a))) a
 local-back n st a r q l h = comes-back keys n st a r q l h keys-good

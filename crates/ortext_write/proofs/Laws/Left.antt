@@ -5,7 +5,7 @@ use Prim.Native.Nat.{ℕ, zero, suc, _+_, _-_, _≤_, _<_}
 use native.Mathlib.Numerals.{add-one}
 use native.Mathlib.Omega.{arith}
 use mathlib.Core.List.{List, [], _∷_, _++_, reverse, reverse-append}
-use lib.ListN.{length, drop, getD, set, take, length-take, length-append, drop-of-length-le}
+use lib.ListN.{length, drop, getD, take, length-take, length-append, drop-of-length-le}
 use lib.Seq.{sets, drop-append-le, drop-cons, take-suc}
 use Rattle.chars.specs.Write.{Wrote}
 use Rattle.chars.proofs.Laws.Write.{sets-append, wrote-length}

@@ -25,7 +25,7 @@ use Rattle.oraddr.specs.Bounds.{ADMD, C, C-LETTERS, DD-TYPE, DD-VALUE, G, GQ, I
 use Rattle.oraddr.specs.Canonical.{allKept, canonical, isDd, isUnit, kept}
 use Rattle.oraddr.proofs.Laws.Canonical.{canonical-parts}
 use Rattle.oraddr.proofs.Laws.View.{value-length}
-use Rattle.ortext_segments.specs.Keys.{Keys, DD-KEY, OU-KEY, SHORT-KEYS, keyNumber, keys}
+use Rattle.ortext_segments.specs.Keys.{Keys, DD-KEY, OU-KEY, SHORT-KEYS, keyNumber, keys, ownLevels, singleCount}
 use Rattle.ortext_name.specs.Name.{isShort, nameText}
 use Rattle.ortext_segments.specs.Segments.{Segment}
 use Rattle.ortext_write.specs.Write.{ddSegment, hasShort, joined, keyValue, localText, longDd, longestText, nameIn, onlyName, order, plainSegment, quoted, recordText, remaining, segmentText, segmentsAt, segmentsIn, segmentsText, shortKey, writesShort}
@@ -114,11 +114,11 @@ joined-in ks a (k ∷ l) = joined-append ks (segmentsAt a k) (segmentsIn a l) �
 
 -- ---- what a record has for one key
 
-pub single-none : (ks : Keys) (a : Attributes) (k : ℕ) → k < 8 → singleOf a k ≡ [] → joined ks (segmentsAt a k) ≡ []
+pub single-none : (ks : Keys) (a : Attributes) (k : ℕ) → k < singleCount → singleOf a k ≡ [] → joined ks (segmentsAt a k) ≡ []
 unfolding segmentsAt joined nonEmpty
 single-none ks a k h e = rw (ne-eqb k DD-KEY (λ q. omega arith), ne-eqb k OU-KEY (λ q. omega arith), e)
 
-pub single-some : (a : Attributes) (k : ℕ) → k < 8 → 0 < length (singleOf a k) → joined keys (segmentsAt a k) ≡ keyValue (getD keys k []) (singleOf a k)
+pub single-some : (a : Attributes) (k : ℕ) → k < singleCount → 0 < length (singleOf a k) → joined keys (segmentsAt a k) ≡ keyValue (getD keys k []) (singleOf a k)
 unfolding segmentsAt joined
 single-some a k h e =
     rw (ne-eqb k DD-KEY (λ q. omega arith), ne-eqb k OU-KEY (λ q. omega arith), some-length (singleOf a k) e, append-nil)
@@ -139,7 +139,7 @@ module _ {A : Type 0} (d : A) where
   blank-out (suc m) r (suc k) h = blank-out m r k (le-of-suc-le-suc h)
 
 -- the first of the four that are blank pass
-blank-test : (n : ℕ) (l : List (List ℕ)) → let s = take 4 (replicate (min n 4) [] ++ drop (min n 4) l) in all (λ s. not (nonEmpty s)) s ≡ all (λ s. not (nonEmpty s)) (drop n s)
+blank-test : (n : ℕ) (l : List (List ℕ)) → let s = take 4 (replicate (min n ownLevels) [] ++ drop (min n ownLevels) l) in all (λ s. not (nonEmpty s)) s ≡ all (λ s. not (nonEmpty s)) (drop n s)
 unfolding all nonEmpty
 blank-test zero l = refl
 blank-test (suc zero) l = refl
@@ -158,15 +158,15 @@ all-on p d h (x ∷ s) zero = refl
 all-on p d h (x ∷ s) (suc k) = rw add-one (rw add-one at (all-on p d h s k))
 
 module _ (n : ℕ) (a : Attributes) where
-  pub single-left : (k : ℕ) → min n 4 ≤ k → singleOf (remaining n a) k ≡ singleOf a k
+  pub single-left : (k : ℕ) → min n ownLevels ≤ k → singleOf (remaining n a) k ≡ singleOf a k
   unfolding singleOf remaining
-  single-left k h = blank-left [] (min n 4) (a .single) k h
+  single-left k h = blank-left [] (min n ownLevels) (a .single) k h
 
-  pub single-out : (k : ℕ) → k < min n 4 → singleOf (remaining n a) k ≡ []
+  pub single-out : (k : ℕ) → k < min n ownLevels → singleOf (remaining n a) k ≡ []
   unfolding singleOf remaining
-  single-out k h = blank-out [] (min n 4) (drop (min n 4) (a .single)) k h
+  single-out k h = blank-out [] (min n ownLevels) (drop (min n ownLevels) (a .single)) k h
 
-  pub segments-left : (k : ℕ) → min n 4 ≤ k → k < 8 → segmentsAt (remaining n a) k ≡ segmentsAt a k
+  pub segments-left : (k : ℕ) → min n ownLevels ≤ k → k < singleCount → segmentsAt (remaining n a) k ≡ segmentsAt a k
   unfolding segmentsAt
   segments-left k h l = rw (ne-eqb k DD-KEY (λ q. omega arith), ne-eqb k OU-KEY (λ q. omega arith), single-left k h)
 
@@ -174,7 +174,7 @@ module _ (n : ℕ) (a : Attributes) where
   unfolding segmentsAt remaining
   dds-left k e = rw e
 
-  pub units-left : (k : ℕ) → k ≡ OU-KEY → segmentsAt (remaining n a) k ≡ map (plainSegment OU-KEY) (reverse (drop (n - 4) (a .units)))
+  pub units-left : (k : ℕ) → k ≡ OU-KEY → segmentsAt (remaining n a) k ≡ map (plainSegment OU-KEY) (reverse (drop (n - ownLevels) (a .units)))
   unfolding segmentsAt remaining
   units-left k e = rw e
 
@@ -202,22 +202,22 @@ module _ (n : ℕ) (a : Attributes) where
   unfolding remaining
   own-start = blank-test n (a .single)
 
-  pub units-count : length (remaining n a .units) ≡ length (a .units) - (n - 4)
+  pub units-count : length (remaining n a .units) ≡ length (a .units) - (n - ownLevels)
   unfolding remaining
-  units-count = length-drop (n - 4) (a .units)
+  units-count = length-drop (n - ownLevels) (a .units)
 
 -- ---- which form is written
 
 module _ (a : Attributes) where
-  pub only-own : all (λ s. not (nonEmpty s)) (take 4 (a .single)) ≡ false → onlyName a ≡ false
+  pub only-own : all (λ s. not (nonEmpty s)) (take ownLevels (a .single)) ≡ false → onlyName a ≡ false
   unfolding onlyName
   only-own h = rw h
 
   pub only-units : 0 < length (a .units) → onlyName a ≡ false
   unfolding onlyName
-  only-units h = rw (some-length (a .units) h, and-false)
+  only-units h = rw (some-length (a .units) h, and-false (all (λ s. not (nonEmpty s)) (take ownLevels (a .single))))
 
-  pub only-rest : all (λ s. not (nonEmpty s)) (take 4 (a .single)) ≡ true → length (a .units) ≤ 0 → eqb (length (a .dds)) 0 ≡ onlyName a
+  pub only-rest : all (λ s. not (nonEmpty s)) (take ownLevels (a .single)) ≡ true → length (a .units) ≤ 0 → eqb (length (a .dds)) 0 ≡ onlyName a
   unfolding onlyName nonEmpty
   only-rest h k = rw (h, no-length (a .units) k) (none-test (a .dds))
     where
@@ -229,9 +229,13 @@ module _ (a : Attributes) where
   unfolding writesShort
   writes-not h = rw h
 
+  short-none : 0 < length (singleOf a GQ) → isShort (nameIn a) (singleOf a GQ) ≡ false
+  unfolding isShort
+  short-none h = rw (some-length (singleOf a GQ) h, and-false)
+
   pub writes-generation : 0 < length (singleOf a GQ) → writesShort a ≡ false
-  unfolding writesShort isShort
-  writes-generation h = rw (some-length (singleOf a GQ) h, and-false, and-false)
+  unfolding writesShort
+  writes-generation h = ap (λ b. onlyName a && b) (short-none h) ∙ and-false (onlyName a)
 
   pub writes-rest : onlyName a ≡ true → singleOf a GQ ≡ [] → writesShort a ≡ isShort (nameIn a) []
   unfolding writesShort
@@ -252,11 +256,7 @@ module _ (a : Attributes) where
 -- ---- what is left, by its parts
 
 module _ (n : ℕ) (a : Attributes) where
-  pub remaining-single : remaining n a .single ≡ replicate (min n 4) [] ++ drop (min n 4) (a .single)
-  unfolding remaining
-  remaining-single = refl
-
-  pub remaining-units : remaining n a .units ≡ drop (n - 4) (a .units)
+  pub remaining-units : remaining n a .units ≡ drop (n - ownLevels) (a .units)
   unfolding remaining
   remaining-units = refl
 
@@ -264,13 +264,9 @@ module _ (n : ℕ) (a : Attributes) where
   unfolding remaining
   remaining-dds = refl
 
-  pub remaining-length : length (a .single) ≡ 8 → length (remaining n a .single) ≡ 8
+  pub remaining-length : length (a .single) ≡ singleCount → length (remaining n a .single) ≡ singleCount
   unfolding remaining
   remaining-length h = simp (length-append, length-replicate, length-drop) (omega arith)
-
-pub remaining-none : (a : Attributes) → remaining 0 a ≡ a
-unfolding remaining
-remaining-none a = refl
 
 -- ---- the rules of a canonical record, of what is left of it
 
@@ -298,11 +294,11 @@ pub ruled : (n : ℕ) (a : Attributes) → canonical a ≡ true → Ruled (remai
 unfolding singleOf
 ruled n a h =
     let p = canonical-parts a h in record {
-      singles = λ k. by-test (ltb k (min n 4))
-          (λ e. rw (single-out n a k (ltb-true k (min n 4) e)) (kept-none k))
-          (λ e. rw (single-left n a k (ltb-false k (min n 4) e)) (kept-at (a .single) 0 k k (omega arith) (p .singles)));
+      singles = λ k. by-test (ltb k (min n ownLevels))
+          (λ e. rw (single-out n a k (ltb-true k (min n ownLevels) e)) (kept-none k))
+          (λ e. rw (single-left n a k (ltb-false k (min n ownLevels) e)) (kept-at (a .single) 0 k k (omega arith) (p .singles)));
       few-units = omega (arith, units-count n a, p .few-units);
-      units = rw (remaining-units n a) (all-drop isUnit (n - 4) (a .units) (p .units));
+      units = rw (remaining-units n a) (all-drop isUnit (n - ownLevels) (a .units) (p .units));
       few-dds = rw (remaining-dds n a) (p .few-dds);
       dds = rw (remaining-dds n a) (p .dds);
     }
@@ -367,7 +363,7 @@ module _ (a : Attributes) where
   units-text = joined-map keys (plainSegment OU-KEY) (reverse (a .units))
 
   -- the segment of an attribute that a record has once, by a bound of its quoted value
-  single-most : (k m : ℕ) → k < 8 → length (quoted (singleOf a k)) ≤ m → length (keyText a k) ≤ length (getD keys k []) + m + 2
+  single-most : (k m : ℕ) → k < singleCount → length (quoted (singleOf a k)) ≤ m → length (keyText a k) ≤ length (getD keys k []) + m + 2
   single-most k m h l =
       let v = singleOf a k in
       by-test (ltb 0 (length v))
@@ -402,7 +398,7 @@ all-reverse p (x ∷ l) h =
     rw (reverse-cons, all-append p (reverse l) (x ∷ []), all-reverse p l (and-right (p x) (all p l) h), and-left (p x) (all p l) h)
 
 module _ (a : Attributes) (r : Ruled a) where
-  own-most : (k m : ℕ) → k < 8 → leb (length (getD keys k []) + 2 * boundOf k + 2) m ≡ true → length (keyText a k) ≤ m
+  own-most : (k m : ℕ) → k < singleCount → leb (length (getD keys k []) + 2 * boundOf k + 2) m ≡ true → length (keyText a k) ≤ m
   own-most k m h e =
       omega (arith, leb-true (length (getD keys k []) + 2 * boundOf k + 2) m e, single-most a k (2 * boundOf k) h (omega (arith, quoted-length (singleOf a k), kept-within k (singleOf a k) (r .singles k))))
 
@@ -509,7 +505,7 @@ flat-class f p q g (x ∷ l) h =
     rw (all-append q (f x) (flat f l), g x (and-left (p x) (all p l) h), flat-class f p q g l (and-right (p x) (all p l) h))
 
 module _ (a : Attributes) (r : Ruled a) where
-  own-class : (k : ℕ) → k < 8 → all isTextChar (keyText a k) ≡ true
+  own-class : (k : ℕ) → k < singleCount → all isTextChar (keyText a k) ≡ true
   unfolding all
   own-class k h =
       let v = singleOf a k in
@@ -525,7 +521,7 @@ module _ (a : Attributes) (r : Ruled a) where
       (λ f. rw (eqb-true k OU-KEY f, units-text a) (flat-class unitText isUnit isTextChar unit-class (reverse (a .units)) (all-reverse isUnit (a .units) (r .units))))
       (λ f. own-class k (below k (ltb-true k 10 h) (eqb-false k DD-KEY e) (eqb-false k OU-KEY f))))
     where
-      below : (k : ℕ) → k < 10 → (k ≡ 9 → ⊥) → (k ≡ 8 → ⊥) → k < 8
+      below : (k : ℕ) → k < 10 → (k ≡ 9 → ⊥) → (k ≡ 8 → ⊥) → k < singleCount
       below k h e f = omega arith
 
   record-class : all isTextChar (recordText keys a) ≡ true

@@ -9,8 +9,8 @@ use native.Mathlib.Nat.{le-of-suc-le-suc, not-suc-le-zero}
 use native.Mathlib.Omega.{arith}
 use borrow.Author.Tests.{eqb-true, eqb-false, le-leb, leb-true, ltb-false, lt-ltb, le-ltb, ltb-true, ne-eqb, not-true}
 use lib.Dec.{eqb, leb, ltb}
-use lib.ListN.{length, drop, getD, replicate, length-append, length-drop, length-replicate, getD-replicate, drop-of-length-le, List·getD-eq-default, List·getD-append}
-use lib.Seq.{drop-cons, getD-append-add, getD-drop}
+use lib.ListN.{length, drop, getD, replicate, length-append, length-drop, drop-of-length-le, List·getD-eq-default}
+use lib.Seq.{drop-cons, getD-drop}
 use Rattle.chars.proofs.Laws.Seq.{absent-is}
 use Rattle.chars.specs.Lists.{all, bytes, member, nonEmpty}
 use Rattle.chars.specs.Class.{between, isDigit, isLabelChar, isLetter, isPrintable}
@@ -20,13 +20,14 @@ use Rattle.chars.specs.Spaces.{isText, wellSpaced}
 use Rattle.chars.proofs.Laws.Case.{equal-path}
 use Rattle.chars.proofs.Laws.Class.{digit-printable, letter-printable}
 use Rattle.chars.proofs.Laws.Lists.{all-append, all-at, all-drop, all-map, all-weaken, first-at, and-both, and-left, and-right, and-three, by-test, or-cases, true-not-false}
-use Rattle.ortext_segments.specs.Keys.{Keys, DD-KEY, OU-KEY, PN-KEY, SHORT-KEYS, isKey, keyNumber, keys}
+use Rattle.ortext_segments.specs.Keys.{Keys, DD-KEY, OU-KEY, PN-KEY, SHORT-KEYS, isKey, keyNumber, keys, ownLevels, singleCount}
 use Rattle.ortext_segments.specs.Segments.{Segment, unknown, ahead, keyRun, plainKey, plainText, readRest, readSegments, segmentOf, symbols}
 use Rattle.oraddr.specs.Attributes.{Attributes, Dd, singleOf}
 use Rattle.oraddr.specs.Bounds.{boundOf, isCountry, isSpace, isValue, rule, C, ADMD, PRMD, O, S, G, I, GQ, OU, C-LETTERS, DD-TYPE, DD-VALUE}
 use Rattle.oraddr.specs.declared.record.Record.{Record}
 use Rattle.oraddr.specs.Canonical.{allKept, canonical, identified, isDd, isUnit, kept}
 use Rattle.oraddr.proofs.Laws.Canonical.{canonical-parts}
+use Rattle.ortext_read.proofs.Laws.Values.{dds-append, values-append}
 use Rattle.ortext_read.specs.Apply.{addNamed, applied, readText, ddsOf, hasEmpty, hasRepeated, hasUnknown, nameOf, named, namedAgain, pnMeets, singleKeys, valueAt, valuesAt, withName}
 use Rattle.ortext_name.specs.Name.{Name, isShort, nameText}
 use Rattle.ortext_write.specs.Write.{ddSegment, plainSegment, segmentsAt, segmentsIn, order, recordText, remaining, hasShort, joined, keyValue, longDd, quoted, segmentText, segmentsText, shortKey}
@@ -335,16 +336,6 @@ module _ (ks : Keys) where
 
 -- ---- what the written segments name
 
-values-append : (k : ℕ) (s t : List Segment) → valuesAt k (s ++ t) ≡ valuesAt k s ++ valuesAt k t
-unfolding valuesAt
-values-append k [] t = refl
-values-append k (g ∷ s) t = by-test (eqb (g .key) k) (λ e. rw (e, values-append k s t)) (λ e. rw (e, values-append k s t))
-
-dds-append : (s t : List Segment) → ddsOf (s ++ t) ≡ ddsOf s ++ ddsOf t
-unfolding ddsOf
-dds-append [] t = refl
-dds-append (g ∷ s) t = by-test (eqb (g .key) DD-KEY) (λ e. rw (e, dds-append s t)) (λ e. rw (e, dds-append s t))
-
 values-plain : (k j : ℕ) (vs : List (List ℕ)) → valuesAt k (map (plainSegment j) vs) ≡ cond (eqb j k) vs []
 unfolding valuesAt plainSegment
 values-plain k j [] = by-test (eqb j k) (λ e. rw e) (λ e. rw e)
@@ -462,7 +453,7 @@ module _ (a : Attributes) where
   single-value k h = rw (single-in k h) (one-value (singleOf a k) .2)
 
   -- what is written names the attributes
-  pub named-in : length (a .single) ≡ 8 → named (segmentsIn a order) ≡ some a
+  pub named-in : length (a .single) ≡ singleCount → named (segmentsIn a order) ≡ some a
   unfolding named hasUnknown hasRepeated pnMeets hasEmpty withName nameOf all nonEmpty isSingle times own elements
   named-in l =
       let gs = segmentsIn a order in
@@ -488,7 +479,7 @@ module _ (a : Attributes) where
       )
       (ap (λ (ss : List (List ℕ)). some (record { single = ss; units = a .units; dds = a .dds })) (sym (listed (a .single) 0 8 l)))
 
-pub named-written : (ks : Keys) (a : Attributes) → length (a .single) ≡ 8 → named (map (spelled ks) (segmentsIn a order)) ≡ some (spelledAttributes ks a)
+pub named-written : (ks : Keys) (a : Attributes) → length (a .single) ≡ singleCount → named (map (spelled ks) (segmentsIn a order)) ≡ some (spelledAttributes ks a)
 unfolding spelledAttributes
 named-written ks a l = rw (spelled-in ks a order) (named-in (spelledAttributes ks a) l)
 
@@ -605,26 +596,26 @@ module _ (n : ℕ) (a : Attributes) where
   remaining-printable p =
       record {
         singles =
-            all-append (all isPrintable) (replicate (min n 4) []) (drop (min n 4) (a .single))
-            ∙ and-both (all-replicate (all isPrintable) (min n 4) [] refl) (all-drop (all isPrintable) (min n 4) (a .single) (p .singles));
-        units = all-drop (all isPrintable) (n - 4) (a .units) (p .units);
+            all-append (all isPrintable) (replicate (min n ownLevels) []) (drop (min n ownLevels) (a .single))
+            ∙ and-both (all-replicate (all isPrintable) (min n ownLevels) [] refl) (all-drop (all isPrintable) (min n ownLevels) (a .single) (p .singles));
+        units = all-drop (all isPrintable) (n - ownLevels) (a .units) (p .units);
         dds = p .dds;
       }
 
   -- no segment names a level that went into a domain
-  keys-at : (j : ℕ) → all (λ g. leb (min n 4) (g .key)) (segmentsAt (remaining n a) j) ≡ true
+  keys-at : (j : ℕ) → all (λ g. leb (min n ownLevels) (g .key)) (segmentsAt (remaining n a) j) ≡ true
   unfolding all own one nonEmpty
   keys-at j =
-      by-test (ltb j (min n 4))
-      (λ e. let l = ltb-true j (min n 4) e in
+      by-test (ltb j (min n ownLevels))
+      (λ e. let l = ltb-true j (min n ownLevels) e in
       rw (at-plain (remaining n a) j (ne-eqb j DD-KEY (λ r. omega arith)), ne-eqb j OU-KEY (λ r. omega arith), single-out n a j l))
-      (λ e. at-keys (remaining n a) j (leb (min n 4)) (le-leb (min n 4) j (ltb-false j (min n 4) e)))
+      (λ e. at-keys (remaining n a) j (leb (min n ownLevels)) (le-leb (min n ownLevels) j (ltb-false j (min n ownLevels) e)))
 
-  keys-in : (js : List ℕ) → all (λ g. leb (min n 4) (g .key)) (segmentsIn (remaining n a) js) ≡ true
+  keys-in : (js : List ℕ) → all (λ g. leb (min n ownLevels) (g .key)) (segmentsIn (remaining n a) js) ≡ true
   unfolding segmentsIn all
   keys-in [] = refl
   keys-in (j ∷ js) =
-      all-append (λ g. leb (min n 4) (g .key)) (segmentsAt (remaining n a) j) (segmentsIn (remaining n a) js) ∙ and-both (keys-at j) (keys-in js)
+      all-append (λ g. leb (min n ownLevels) (g .key)) (segmentsAt (remaining n a) j) (segmentsIn (remaining n a) js) ∙ and-both (keys-at j) (keys-in js)
 
   -- S or a DD is there
   some-in : identified a ≡ true → nonEmpty (segmentsIn (remaining n a) order) ≡ true
@@ -655,7 +646,7 @@ module _ (ks : Keys) (good : goodKeys ks ≡ true) (n : ℕ) (a : Attributes) (c
       let q : gs ≡ map (spelled ks) (segmentsIn (remaining n a) order) = cc in
       rw (q, spelled-in ks (remaining n a) order, keys-in n (spelledAttributes ks a) order)
 
-  module _ (l : length (a .single) ≡ 8) where
+  module _ (l : length (a .single) ≡ singleCount) where
     pub written-back : let b = remaining n a in (gs : List Segment) × (readSegments ks (recordText ks b) ≡ some gs) × (named gs ≡ some (spelledAttributes ks b))
     written-back = (map (spelled ks) (segmentsIn (remaining n a) order), record-read, named-written ks (remaining n a) (remaining-length n a l))
 

@@ -4,7 +4,8 @@ use mathlib.Core.Path.{_≡_, sym, ap₂, _∙_}
 use mathlib.Core.Bool.{false, _||_}
 use Rattle.chars.proofs.Laws.Lists.{or-left, or-right}
 use Rattle.oraddr.specs.Add.{told}
-use Rattle.ortext_read.specs.Named.{addHeld, isBeside}
+use Rattle.ortext_build.specs.Adding.{addHeld}
+use Rattle.ortext_named.specs.Named.{isBeside}
 use Rattle.ortext_read.proofs.Laws.Answers.{answer-again, answer-refused, finish-done, held-again, held-finished, held-refused}
 use borrow.Author.Needs.{needs}
 use Rattle.ortext_read.proofs.read.applied.Statement.{statement}

@@ -4,8 +4,8 @@ use mathlib.Core.Path.{sym, ap, _∙_}
 use Rattle.oraddr.specs.Add.{told}
 use Rattle.ortext_read.specs.Answers.{answered, reading}
 use Rattle.ortext_read.specs.Apply.{finish, read}
-use Rattle.ortext_read.proofs.Laws.Adding.{told-done, told-refused}
-use Rattle.ortext_read.proofs.Laws.Answers.{finish-refused, finish-start}
+use Rattle.ortext_build.proofs.Laws.Adding.{told-done, told-refused}
+use Rattle.ortext_read.proofs.Laws.Answers.{answer-refused, finish-refused, finish-start}
 use borrow.Author.Needs.{needs}
 use Rattle.ortext_read.proofs.read.finished.Statement.{statement}
 use Rattle.ortext_read.proofs.read.finished.Tie as tie
@@ -19,13 +19,15 @@ completed-requires c κs = search needs
 enum-told-2 : tie.Need-enum-told-2
 enum-told-2 c = search needs
 
+without-record-requires : tie.Need-without-record-requires
+without-record-requires c κs = search needs
+
 returns : tie.Need-returns
 unfolding reading answered
 returns c = let a = c .before .before .before .args in ap read (c .completed .ensures) ∙ sym (ap finish (told-done (a .done) (c .before .enum-told .given .1)) ∙ finish-start (a .done .«record»))
 
 returns-2 : tie.Need-returns-2
-unfolding reading answered
-returns-2 c = let a = c .before .before .args in sym (finish-refused (told (a .done)) (told-refused (a .done) (c .enum-told2 .given .1)))
+returns-2 c = let a = c .before .before .before .args in answer-refused (c .without-record .result) (c .without-record .ensures) ∙ sym (finish-refused (told (a .done)) (told-refused (a .done) (c .before .enum-told2 .given .1)))
 
 pub finished-spec : {M : Type 1} → statement M
-finished-spec = tie.close (tie.spec enum-told completed-requires enum-told-2 returns returns-2)
+finished-spec = tie.close (tie.spec enum-told completed-requires enum-told-2 without-record-requires returns returns-2)

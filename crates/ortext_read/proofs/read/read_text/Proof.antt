@@ -1,8 +1,6 @@
 -- `ortext_read::read::read_text` meets its contract. The loop's invariant: the segments so far and what is left are all, and the places held are
 -- those of the segments so far.
 -- Assumes nothing.
---
--- Assumes nothing.
 use mathlib.Core.Path.{sym, _∙_}
 use Prim.Native.Nat.{_-_}
 use native.Mathlib.Omega.{arith}
@@ -37,8 +35,11 @@ without-record-requires-2 c κs = search needs
 returns-2 : tie.Need-returns-2 Inv-loop μ-loop
 returns-2 c = let a = c .before .before .before .before .before .args in answer-unread (c .without-record2 .result) (c .without-record2 .ensures) ∙ sym (unread-other (a .s .now) (a .n) (a .rec) (read-other keys (a .s .now) (c .before .if2 .taken)))
 
+nothing-requires : tie.Need-nothing-requires Inv-loop μ-loop
+nothing-requires c κs = search needs
+
 loop-holds : tie.Need-loop-holds Inv-loop μ-loop
-loop-holds c = let a = c .before .before .before .before .args in scanned-first (a .s .now) (a .n) (c .if2 .left) (omega arith)
+loop-holds c = let a = c .before .before .before .before .before .args in rw (c .nothing .ensures) (scanned-first (a .s .now) (a .n) (c .before .if2 .left) (omega arith))
 
 read-segment-requires : tie.Need-read-segment-requires Inv-loop μ-loop
 read-segment-requires c κs = omega arith
@@ -50,7 +51,7 @@ with-requires : tie.Need-with-requires Inv-loop μ-loop
 with-requires c κs = search needs
 
 -- the segment that was found
-found : (c : tie.After-with Inv-loop μ-loop) → Segmented (c .before .before .before .before .before .before .before .before .before .before .before .args .s .now) (c .before .before .before .before .before .before .loop .at) (c .before .before .f .given .0 .0)
+found : (c : tie.After-with Inv-loop μ-loop) → Segmented (c .before .before .before .before .before .before .before .before .before .before .before .before .args .s .now) (c .before .before .before .before .before .before .loop .at) (c .before .before .f .given .0 .0)
 unfolding Segmenting
 found c = rw (c .before .before .f .given .1) at (c .before .before .before .before .read-segment .ensures)
 
@@ -58,7 +59,7 @@ loop-less : tie.Need-loop-less Inv-loop μ-loop
 loop-less c = let g = found c in omega (arith, g .moves, g .inside)
 
 loop-again : tie.Need-loop-again Inv-loop μ-loop
-loop-again c = let a = c .before .before .before .before .before .before .before .before .before .before .before .args in let l = c .before .before .before .before .before .before .loop in rw (c .with .ensures) (scanned-more (a .s .now) (a .n) (l .at) (l .named) _ (l .inv) (found c))
+loop-again c = let a = c .before .before .before .before .before .before .before .before .before .before .before .before .args in let l = c .before .before .before .before .before .before .loop in rw (c .with .ensures) (scanned-more (a .s .now) (a .n) (l .at) (l .named) _ (l .inv) (found c))
 
 enum-told : tie.Need-enum-told Inv-loop μ-loop
 enum-told c = search needs
@@ -68,13 +69,13 @@ without-record-requires-3 c κs = search needs
 
 returns-3 : tie.Need-returns-3 Inv-loop μ-loop
 unfolding Segmenting
-returns-3 c = let a = c .before .before .before .before .before .before .before .before .before .before .args in let l = c .before .before .before .before .before .loop in answer-unread (c .without-record3 .result) (c .without-record3 .ensures) ∙ sym (scanned-bad (a .s .now) (a .n) (l .at) (l .named) (a .rec) (l .inv) (rw (c .before .enum-told .given .1) at (c .before .before .before .read-segment .ensures)))
+returns-3 c = let a = c .before .before .before .before .before .before .before .before .before .before .before .args in let l = c .before .before .before .before .before .loop in answer-unread (c .without-record3 .result) (c .without-record3 .ensures) ∙ sym (scanned-bad (a .s .now) (a .n) (l .at) (l .named) (a .rec) (l .inv) (rw (c .before .enum-told .given .1) at (c .before .before .before .read-segment .ensures)))
 
 applied-requires : tie.Need-applied-requires Inv-loop μ-loop
 applied-requires c κs = c .before .loop .inv .held .sound
 
 returns-4 : tie.Need-returns-4 Inv-loop μ-loop
-returns-4 c = let a = c .before .before .before .before .before .before .before .args in let l = c .before .before .loop in c .applied .ensures ∙ scanned-last (a .s .now) (a .n) (l .at) (l .named) (a .rec) (l .inv) (omega arith)
+returns-4 c = let a = c .before .before .before .before .before .before .before .before .args in let l = c .before .before .loop in c .applied .ensures ∙ scanned-last (a .s .now) (a .n) (l .at) (l .named) (a .rec) (l .inv) (omega arith)
 
 pub read-text-spec : {M : Type 1} → statement M
 read-text-spec =
@@ -87,6 +88,7 @@ read-text-spec =
     shared-slice-read-if2
     without-record-requires-2
     returns-2
+    nothing-requires
     loop-holds
     read-segment-requires
     enum-known-f

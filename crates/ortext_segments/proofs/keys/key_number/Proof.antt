@@ -8,41 +8,34 @@ use borrow.Author.Needs.{needs}
 use lib.ListN.{drop, getD}
 use lib.Seq.{length-take-le}
 use Rattle.chars.specs.Case.{sameText}
-use Rattle.ortext_segments.specs.Keys.{keyNumber, keys}
-use Rattle.ortext_segments.proofs.Laws.Keys.{key-count, name-fits, name-text, number-end, number-here, number-more, named, table}
-use Rattle.chars.specs.Lists.{bytes}
+use Rattle.ortext_segments.specs.Keys.{keyCount, keyNumber, keys}
+use Rattle.ortext_segments.proofs.Laws.Keys.{key-count, number-end, number-here, number-more}
 use Rattle.ortext_segments.proofs.keys.key_number.Statement.{statement}
 use Rattle.ortext_segments.proofs.keys.key_number.Tie as tie
 
 abbrev Inv-loop : tie.InvT-loop
-Inv-loop s k₀ k = (k ≤ 12) × (keyNumber keys s ≡ k + keyNumber (drop k keys) s)
+Inv-loop s k₀ k = (k ≤ keyCount) × (keyNumber keys s ≡ k + keyNumber (drop k keys) s)
 
 abbrev μ-loop : tie.MeasureT-loop
-μ-loop s k₀ k = 12 - k
+μ-loop s k₀ k = keyCount - k
 
 -- what the test of an entry says
 tested : (c : tie.After-same-text Inv-loop μ-loop) → let at = c .before .before .before .before .before in c .same-text .result ≡ sameText (getD keys (at .loop .k) []) (at .before .before .args .s .now)
-unfolding table named keys bytes
 tested c =
     let at = c .before .before .before .before .before in
-    c .same-text .ensures ∙ ap (λ (t : List ℕ). sameText t (at .before .before .args .s .now)) (name-text (at .loop .k) _ (omega arith))
+    c .same-text .ensures ∙ ap (λ (t : List ℕ). sameText t (at .before .before .args .s .now)) (c .before .before .before .key-name .ensures .text)
 
 loop-holds : tie.Need-loop-holds Inv-loop μ-loop
 loop-holds c = (omega arith, omega arith)
 
-mul-name : tie.Need-mul-name Inv-loop μ-loop
-mul-name c = omega arith
-
-array-copy-out-name : tie.Need-array-copy-out-name Inv-loop μ-loop
-array-copy-out-name c = omega arith
+key-name-requires : tie.Need-key-name-requires Inv-loop μ-loop
+key-name-requires c κs = omega arith
 
 array-share-prefix-bytes : tie.Need-array-share-prefix-bytes Inv-loop μ-loop
-unfolding table named keys bytes
-array-share-prefix-bytes c = name-fits (c .before .before .before .loop .k) _ (omega arith)
+array-share-prefix-bytes c = c .before .key-name .ensures .fits
 
 slice-aggregate-same-text : tie.Need-slice-aggregate-same-text Inv-loop μ-loop
-unfolding table named keys bytes
-slice-aggregate-same-text c = sym (length-take-le _ _ (name-fits (c .before .before .before .before .loop .k) _ (omega arith)))
+slice-aggregate-same-text c = sym (length-take-le _ _ (c .before .before .key-name .ensures .fits))
 
 same-text-requires : tie.Need-same-text-requires Inv-loop μ-loop
 same-text-requires c κs = search needs
@@ -75,8 +68,7 @@ key-number-spec =
     Inv-loop
     μ-loop
     loop-holds
-    mul-name
-    array-copy-out-name
+    key-name-requires
     array-share-prefix-bytes
     slice-aggregate-same-text
     same-text-requires

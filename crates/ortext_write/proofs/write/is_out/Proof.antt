@@ -6,6 +6,7 @@ use native.Mathlib.Omega.{arith}
 use borrow.Author.Tests.{le-ltb, lt-ltb, ltb-true}
 use lib.Dec.{ltb}
 use Rattle.chars.proofs.Laws.Lists.{bool-same}
+use Rattle.ortext_segments.specs.Keys.{ownLevels}
 use Rattle.ortext_write.proofs.write.is_out.Statement.{statement}
 use Rattle.ortext_write.proofs.write.is_out.Tie as tie
 
@@ -13,9 +14,9 @@ returns : tie.Need-returns
 returns c =
     let k = c .before .args .k in
     let n = c .before .args .n in
-    bool-same (ltb k n) (ltb k (min n 4))
-    (λ e. let h = ltb-true k n e in lt-ltb k (min n 4) (omega arith))
-    (λ e. let h = ltb-true k (min n 4) e in lt-ltb k n (omega arith))
+    bool-same (ltb k n) (ltb k (min n ownLevels))
+    (λ e. let h = ltb-true k n e in lt-ltb k (min n ownLevels) (omega arith))
+    (λ e. let h = ltb-true k (min n ownLevels) e in lt-ltb k n (omega arith))
 
 returns-2 : tie.Need-returns-2
 returns-2 c = sym (le-ltb (c .before .args .k) (min (c .before .args .n) 4) (omega arith))

@@ -1,34 +1,37 @@
 -- `ortext_write::write::is_short_kind` meets its contract: the short key spells the type.
 -- Assumes nothing.
-use mathlib.Core.Path.{sym, _∙_}
-use Rattle.chars.specs.Lists.{bytes}
-use Rattle.ortext_segments.specs.Keys.{keys}
+use mathlib.Core.Path.{sym, ap, _∙_}
+use Prim.Native.Nat.{ℕ}
+use mathlib.Core.List.{List}
+use lib.Seq.{length-take-le}
+use Rattle.chars.specs.Case.{sameText}
 use Rattle.ortext_write.proofs.Laws.Write.{short-test}
 use borrow.Author.Needs.{needs}
 use Rattle.ortext_write.proofs.write.is_short_kind.Statement.{statement}
 use Rattle.ortext_write.proofs.write.is_short_kind.Tie as tie
 
-array-copy-out-name : tie.Need-array-copy-out-name
-array-copy-out-name c = search needs
+key-name-requires : tie.Need-key-name-requires
+key-name-requires c κs = search needs
 
 array-share-prefix-bytes : tie.Need-array-share-prefix-bytes
-array-share-prefix-bytes c = search needs
+array-share-prefix-bytes c = c .before .key-name .ensures .fits
 
 slice-aggregate-same-text : tie.Need-slice-aggregate-same-text
-slice-aggregate-same-text c = search needs
+slice-aggregate-same-text c = sym (length-take-le _ _ (c .before .before .key-name .ensures .fits))
 
 same-text-requires : tie.Need-same-text-requires
 same-text-requires c κs = search needs
 
 returns : tie.Need-returns
-unfolding keys bytes
-returns c = c .same-text .ensures ∙ sym (short-test (c .before .before .before .before .before .args .kind .now))
+returns c =
+    let kind = c .before .before .before .before .before .args .kind .now in
+    c .same-text .ensures ∙ ap (λ (t : List ℕ). sameText t kind) (c .before .before .before .key-name .ensures .text) ∙ sym (short-test kind)
 
 pub is-short-kind-spec : {M : Type 1} → statement M
 is-short-kind-spec =
     tie.close
     (tie.spec
-    array-copy-out-name
+    key-name-requires
     array-share-prefix-bytes
     slice-aggregate-same-text
     same-text-requires

@@ -9,7 +9,7 @@ use lib.ListN.{drop, getD}
 use Rattle.chars.specs.Lists.{all}
 use Rattle.chars.proofs.Laws.Lists.{all-at}
 use Rattle.oraddr.specs.View.{view}
-use Rattle.ortext_segments.specs.Keys.{keys}
+use Rattle.ortext_segments.specs.Keys.{PN-KEY, keys}
 use Rattle.ortext_write.specs.Write.{joined, order, remaining, segmentsIn}
 use Rattle.ortext_write.proofs.Laws.Left.{Left, flat, flat-end, flat-step, left-all, left-more, left-none, left-room}
 use Rattle.ortext_write.proofs.Laws.Write.{keyText, joined-in}
@@ -17,10 +17,10 @@ use Rattle.ortext_write.proofs.write.put_keys.Statement.{statement}
 use Rattle.ortext_write.proofs.write.put_keys.Tie as tie
 
 abbrev Inv-loop : tie.InvT-loop
-Inv-loop dst₀ at rec from next₀ i₀ dst next i = (i ≤ 10) × Left dst₀ at (joined keys (segmentsIn (remaining from (view rec)) order)) dst next (flat (keyText (remaining from (view rec))) (drop i order))
+Inv-loop dst₀ at rec from next₀ i₀ dst next i = (i ≤ PN-KEY) × Left dst₀ at (joined keys (segmentsIn (remaining from (view rec)) order)) dst next (flat (keyText (remaining from (view rec))) (drop i order))
 
 abbrev μ-loop : tie.MeasureT-loop
-μ-loop dst₀ at rec from next₀ i₀ dst next i = 10 - i
+μ-loop dst₀ at rec from next₀ i₀ dst next i = PN-KEY - i
 
 loop-holds : tie.Need-loop-holds Inv-loop μ-loop
 loop-holds c = (omega arith, left-all (joined-in keys (remaining (c .before .args .from) (view (c .before .args .rec))) order))
@@ -37,7 +37,7 @@ put-key-requires c κs =
     let l = c .before .before .loop in
     let s = c .before .before .before .before in
     let f = keyText (remaining (s .args .from) (view (s .args .rec))) in
-    (ltb-true (getD order (l .i) 0) 10 (all-at (λ k. ltb k 10) order (l .i) 0 refl (omega arith)), left-room (f (getD order (l .i) 0)) (flat f (drop (l .i + 1) order)) (l .inv .1) (flat-step f order (l .i) 0 (omega arith)) (s .pre))
+    (ltb-true (getD order (l .i) 0) PN-KEY (all-at (λ k. ltb k PN-KEY) order (l .i) 0 refl (omega arith)), left-room (f (getD order (l .i) 0)) (flat f (drop (l .i + 1) order)) (l .inv .1) (flat-step f order (l .i) 0 (omega arith)) (s .pre))
 
 add-i : tie.Need-add-i Inv-loop μ-loop
 add-i c = omega arith

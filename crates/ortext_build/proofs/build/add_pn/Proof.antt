@@ -1,0 +1,78 @@
+-- `ortext_build::build::add_pn` meets its contract.
+-- Assumes nothing.
+use mathlib.Core.Path.{sym, ap, _∙_}
+use native.Mathlib.Omega.{arith}
+use borrow.Author.Tests.{eq-eqb, ne-eqb}
+use Rattle.ortext_name.specs.Name.{readName}
+use Rattle.ortext_build.specs.Adding.{addName, addPn, done}
+use Rattle.ortext_name.specs.Places.{NameReading}
+use Rattle.ortext_segments.specs.Scan.{spanText}
+use Rattle.ortext_build.proofs.Laws.Adding.{name-long}
+use Rattle.ortext_build.proofs.Laws.Spans.{fronted-length}
+use borrow.Author.Needs.{needs}
+use Rattle.ortext_build.proofs.build.add_pn.Statement.{statement}
+use Rattle.ortext_build.proofs.build.add_pn.Tie as tie
+
+returns : tie.Need-returns
+unfolding addPn
+returns c = rw (eq-eqb _ 0 (c .if1 .taken))
+
+returns-2 : tie.Need-returns-2
+unfolding addPn done
+returns-2 c = let t = c .before .before .before .before .before in let a = t .args in rw (ne-eqb _ 0 (c .before .before .if1 .left)) (name-long (a .rec) (spanText (a .s .now) (a .span)) (omega (arith, t .pre .half)))
+
+slice-aggregate-unquote : tie.Need-slice-aggregate-unquote
+slice-aggregate-unquote c = search needs
+
+unquote-requires : tie.Need-unquote-requires
+unquote-requires c κs = search needs
+
+array-share-prefix-text : tie.Need-array-share-prefix-text
+array-share-prefix-text c = search needs
+
+slice-aggregate-part : tie.Need-slice-aggregate-part
+slice-aggregate-part c = fronted-length (c .before .before .unquote .ensures)
+
+read-name-requires : tie.Need-read-name-requires
+read-name-requires c κs = search needs
+
+enum-known-places : tie.Need-enum-known-places
+enum-known-places c = search needs
+
+add-name-requires : tie.Need-add-name-requires
+unfolding NameReading
+add-name-requires c κs = rw (c .before .places .given .1) at (c .before .before .before .read-name .ensures)
+
+enum-told : tie.Need-enum-told
+enum-told c = search needs
+
+returns-3 : tie.Need-returns-3
+unfolding addPn NameReading
+returns-3 c =
+    let a = c .before .before .before .before .before .before .before .before .before .before .before .before .before .before .args in
+    let p = rw (c .before .before .places .given .1) at (c .before .before .before .before .read-name .ensures) in
+    rw (ne-eqb _ 0 (c .before .before .before .before .before .before .before .before .before .before .before .if1 .left)) (ap done (c .add-name .ensures ∙ ap (addName (a .rec)) (sym (p .reads) ∙ ap readName (c .before .before .before .before .before .before .before .unquote .ensures .holds))))
+
+returns-4 : tie.Need-returns-4
+unfolding addPn addName NameReading
+returns-4 c =
+    let a = c .before .before .before .before .before .before .before .before .before .before .before .before .args in
+    let p = rw (c .enum-told .given .1) at (c .before .before .read-name .ensures) in
+    rw (ne-eqb _ 0 (c .before .before .before .before .before .before .before .before .before .if1 .left)) (ap (λ o. done (addName (a .rec) o)) (sym p ∙ ap readName (c .before .before .before .before .before .unquote .ensures .holds)))
+
+pub add-pn-spec : {M : Type 1} → statement M
+add-pn-spec =
+    tie.close
+    (tie.spec
+    returns
+    returns-2
+    slice-aggregate-unquote
+    unquote-requires
+    array-share-prefix-text
+    slice-aggregate-part
+    read-name-requires
+    enum-known-places
+    add-name-requires
+    enum-told
+    returns-3
+    returns-4)
