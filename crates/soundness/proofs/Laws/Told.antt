@@ -23,7 +23,8 @@ use Rattle.oraddr.specs.declared.record.Record.{Record}
 use Rattle.table.specs.Formed.{Formed}
 use Rattle.table_settle.specs.Settle.{addLevel, addLevels, begun}
 use Rattle.table.specs.Table.{Table, Token}
-use Rattle.mapping.specs.Answers.{addressNumber, recordNumber, toldAddress, toldRecord}
+use Rattle.mailaddr.specs.Shape.{longestAddress}
+use Rattle.mapping.specs.Answers.{addressNumber, addressRoom, recordNumber, toldAddress, toldRecord}
 use Rattle.mapping.specs.Results.{AddressResult, RecordResult}
 use Rattle.mapping.specs.ToAddress.{toAddress}
 use Rattle.mapping.specs.ToRecord.{toRecord}
