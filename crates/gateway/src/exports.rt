@@ -39,7 +39,7 @@ ghost use Rattle.ortext_segments.specs.Keys.{keys};
 ghost use Rattle.ortext_write.specs.Write.{recordText};
 ghost use Rattle.mailaddr.specs.Tail.{sharedTail};
 ghost use Rattle.table.specs.Lines.{loadedFrom};
-ghost use Rattle.mapping.specs.Answers.{addressLine, toldAddress};
+ghost use Rattle.mapping.specs.Answers.{addressBadLine, toldAddress};
 ghost use Rattle.router.specs.Run.{Routing};
 ghost use Rattle.dates.specs.Answers.{told as toldDate};
 ghost use Rattle.dates.specs.Convert.{dateToUtc, utcToDate};
@@ -53,7 +53,7 @@ ghost use Rattle.gateway.specs.Exports.{Exported, ExportedCheck, Exporte
 // A result in one value: its number, and 16 times the length or the line.
 fn pack(done: ToAddress) -> usize
     requires { ⌜ done .size ≤ 65539 ⌝ }
-    requires { ⌜ addressLine (done .answer) ≤ 65539 ⌝ }
+    requires { ⌜ addressBadLine (done .answer) ≤ 65539 ⌝ }
     ensures { λ r. ⌜ r ≡ packed (toldAddress done []) ⌝ }
 {
     let answer = done.answer;

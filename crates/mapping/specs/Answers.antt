@@ -7,18 +7,24 @@ use mathlib.Core.Option.{Option, none, some}
 use Prim.Native.Nat.{ℕ, _+_, _≤_}
 use lib.ListN.{length, take, drop}
 use Rattle.ortext_read.specs.Apply as apply
+use Rattle.oraddr.specs.Attributes.{Attributes, levels}
 use Rattle.oraddr.specs.Canonical.{canonicalRecord}
 use Rattle.ortext_read.specs.Apply.{again, read, readLocal, refused, unread}
 use Rattle.ortext_segments.specs.Keys.{keys}
 use Rattle.oraddr.specs.declared.record.Record.{Record}
+use Rattle.ortext_write.specs.Write.{localText, remaining}
+use Rattle.mailaddr.specs.Answers.{addressAt, shaped}
 use Rattle.mailaddr.specs.Domain.{isDomain}
-use Rattle.mailaddr.specs.Shape.{Address, isReadable}
+use Rattle.mailaddr.specs.Shape.{Address, addressText, isReadable}
+use Rattle.mailaddr.specs.declared.shape.Parted.{Parted}
 use Rattle.table.specs.Table.{Table, Token}
 use Rattle.table.specs.Rows.{RowInside, between, rowAt, rowsAt}
+use Rattle.table.specs.declared.line as line
 use Rattle.table.specs.declared.load as load
 use Rattle.mapping.specs.Carried.{resultOf}
 use Rattle.mapping.specs.Results.{AddressResult, RecordResult}
-use Rattle.mapping.specs.ToAddress.{Plan, extended}
+use Rattle.mapping.specs.ToAddress.{Plan, extended, plan, planUnder}
+use Rattle.mapping.specs.ToRecord.{recordBy}
 use Rattle.mapping.specs.declared.answers.Written.{Written}
 use Rattle.mapping.specs.declared.answers.Written.the-variants.{Length, NoAddress}
 use Rattle.mapping.specs.declared.answers.RecordAnswer.{RecordAnswer}
@@ -37,16 +43,16 @@ recordNumber record-answer.TooLong = 2
 recordNumber record-answer.TooLongCoded = 3
 recordNumber (record-answer.Malformed l) = 7
 
-unfoldable pub recordLine : RecordAnswer → ℕ
-recordLine record-answer.Done = 0
-recordLine record-answer.NoShape = 0
-recordLine record-answer.TooLong = 0
-recordLine record-answer.TooLongCoded = 0
-recordLine (record-answer.Malformed l) = l
+unfoldable pub recordBadLine : RecordAnswer → ℕ
+recordBadLine record-answer.Done = 0
+recordBadLine record-answer.NoShape = 0
+recordBadLine record-answer.TooLong = 0
+recordBadLine record-answer.TooLongCoded = 0
+recordBadLine (record-answer.Malformed l) = l
 
 unfoldable pub toldRecord : ToRecord → RecordResult
-unfolding recordNumber recordLine
-toldRecord r = record { number = recordNumber (r .answer); line = recordLine (r .answer); record' = r .«record» }
+unfolding recordNumber recordBadLine
+toldRecord r = record { number = recordNumber (r .answer); line = recordBadLine (r .answer); record' = r .«record» }
 
 -- the same of record to address, with what the buffer holds
 unfoldable pub addressNumber : AddressAnswer → ℕ
@@ -56,16 +62,16 @@ addressNumber address-answer.NoAddress = 5
 addressNumber address-answer.ShortBuffer = 6
 addressNumber (address-answer.Malformed l) = 7
 
-unfoldable pub addressLine : AddressAnswer → ℕ
-addressLine address-answer.Done = 0
-addressLine address-answer.NotCanonical = 0
-addressLine address-answer.NoAddress = 0
-addressLine address-answer.ShortBuffer = 0
-addressLine (address-answer.Malformed l) = l
+unfoldable pub addressBadLine : AddressAnswer → ℕ
+addressBadLine address-answer.Done = 0
+addressBadLine address-answer.NotCanonical = 0
+addressBadLine address-answer.NoAddress = 0
+addressBadLine address-answer.ShortBuffer = 0
+addressBadLine (address-answer.Malformed l) = l
 
 unfoldable pub toldAddress : ToAddress → List ℕ → AddressResult
-unfolding addressNumber addressLine
-toldAddress r new = record { number = addressNumber (r .answer); line = addressLine (r .answer); size = r .size; buffer = new }
+unfolding addressNumber addressBadLine
+toldAddress r new = record { number = addressNumber (r .answer); line = addressBadLine (r .answer); size = r .size; buffer = new }
 
 -- ---- on the way
 
@@ -94,6 +100,14 @@ isGood refused = false
 isGood again = false
 isGood (read r) = canonicalRecord r
 
+-- the record of an address that was parted
+abbrev pub recordParted : Table → List ℕ → Parted → RecordResult
+recordParted t s p = recordBy t s (shaped (addressAt s p))
+
+-- room for any address
+abbrev pub addressRoom : ℕ
+addressRoom = 2560
+
 -- A text at the front of a buffer, or that there is none.
 pub record Fronted (o : Option (List ℕ)) (n : ℕ) (new : List ℕ) : Type 0 where
   pub told : o ≡ some (take n new)
@@ -109,3 +123,16 @@ pub record Routed (s : List ℕ) (ls : List Token) (p : Plan) (r : Route) : Type
   pub domain : p .domain ≡ extended (between s (r .row .domain) (r .row .«domain_end»)) (take (r .more) (drop (r .own) ls))
   pub inside : RowInside s (r .row)
   pub few : r .own + r .more ≤ 8
+
+-- the route under a row, and under a table
+abbrev pub RoutedUnder : List ℕ → line.Row.Row → List Token → Route → Type 0
+RoutedUnder s row ls r = Routed s ls (planUnder (rowAt s row) ls) r
+
+abbrev pub RoutedBy : List ℕ → Table → List Token → Route → Type 0
+RoutedBy s t ls r = Routed s ls (plan t ls) r
+
+-- the address of a record that goes out by a route
+abbrev pub routedText : List ℕ → Route → Attributes → List ℕ
+routedText s r a =
+    addressText (localText keys (remaining (r .own + r .more) a))
+    (extended (between s (r .row .domain) (r .row .«domain_end»)) (take (r .more) (drop (r .own) (levels a))))

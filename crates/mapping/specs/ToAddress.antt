@@ -43,10 +43,13 @@ isOneCarrier [] = false
 isOneCarrier (d ∷ []) = sameText carrierType (d .kind)
 isOneCarrier (d ∷ e ∷ ds) = false
 
--- document 01: "A **carrier** is the gateway's path, no name, and one DD of type RFC-822."
+-- document 01: "A **carrier** is the gateway's path, no name, and one DD of type RFC-822." The path and the levels are arguments.
+abbrev pub isCarrierAt : List Token → List Token → Attributes → Bool
+isCarrierAt path ls a = hasLevels path ls && isNameless a && isOneCarrier (a .dds)
+
 unfoldable pub isCarrier : Table → Attributes → Bool
 unfolding hasLevels levels isNameless isOneCarrier
-isCarrier t a = hasLevels (t .gateway .path) (levels a) && isNameless a && isOneCarrier (a .dds)
+isCarrier t a = isCarrierAt (t .gateway .path) (levels a) a
 
 -- the value of a carrier
 unfoldable pub carriedValue : List Dd → List ℕ

@@ -4,7 +4,7 @@ use oraddr::record::Record;
 use table::line::Row;
 ghost use mathlib.Core.Path.{_≡_};
 ghost use Rattle.mapping.specs.Results.{placed};
-ghost use Rattle.mapping.specs.Answers.{addressLine, addressNumber, recordLine, recordNumber, toldAddress};
+ghost use Rattle.mapping.specs.Answers.{addressBadLine, addressNumber, recordBadLine, recordNumber, toldAddress};
 
 // The length of a text that was written, or that a carrier has no address.
 pub enum Written {
@@ -49,7 +49,7 @@ pub fn address_number(answer: AddressAnswer) -> usize
 }
 
 pub fn address_line(answer: AddressAnswer) -> usize
-    ensures { λ r. ⌜ r ≡ addressLine answer ⌝ }
+    ensures { λ r. ⌜ r ≡ addressBadLine answer ⌝ }
 {
     match answer {
         AddressAnswer::Done => 0,
@@ -109,7 +109,7 @@ pub fn record_number(answer: RecordAnswer) -> usize
 }
 
 pub fn record_line(answer: RecordAnswer) -> usize
-    ensures { λ r. ⌜ r ≡ recordLine answer ⌝ }
+    ensures { λ r. ⌜ r ≡ recordBadLine answer ⌝ }
 {
     match answer {
         RecordAnswer::Done => 0,

@@ -14,18 +14,18 @@ use oraddr::value::DdValue;
 use table::line::Row;
 use table_lookup::lookup::match_path;
 ghost use mathlib.Core.Path.{_≡_};
-ghost use mathlib.Core.Bool.{_&&_};
 ghost use mathlib.Core.Option.{some};
 ghost use Prim.Native.Nat.{_<_, _≤_};
 ghost use lib.ListN.{length, take};
 ghost use Rattle.chars.specs.Case.{sameText};
 ghost use Rattle.oraddr.specs.View.{ddValueView, ddsView, kindView, view};
 ghost use Rattle.mailaddr.specs.Code.{decoded};
-ghost use Rattle.table_lookup.specs.Looked.{Ended, levelTokens};
+ghost use Rattle.mailaddr.specs.Shape.{longestAddress};
+ghost use Rattle.table_lookup.specs.Looked.{Ended, tokensOf};
 ghost use Rattle.table.specs.Rows.{RowInside, rowAt};
 ghost use Rattle.mapping.specs.Answers.{Writing};
-ghost use Rattle.mapping.specs.Carried.{carrierType};
-ghost use Rattle.mapping.specs.ToAddress.{carriedAddress, hasLevels, inShape, isNameless, isOneCarrier};
+ghost use Rattle.mapping.specs.Carried.{carrierType, longestCoded};
+ghost use Rattle.mapping.specs.ToAddress.{carriedAddress, hasLevels, inShape, isCarrierAt, isNameless, isOneCarrier};
 
 // Whether levels are those of a row's path and no more.
 fn has_levels(text: &[u8], row: Row, flat: &[u8], ends: &[usize]) -> bool
@@ -78,7 +78,7 @@ fn is_one_carrier(dds: Dds) -> bool
 pub fn is_carrier(text: &[u8], gateway: Row, rec: Record, flat: &[u8], ends: &[usize]) -> bool
     requires { ⌜ RowInside (now text) gateway ⌝ }
     requires { ⌜ Ended (now flat) (now ends) 8 ⌝ }
-    ensures { λ r. ⌜ r ≡ (hasLevels (rowAt (now (text .entry)) gateway .path) (levelTokens (now (flat .entry)) (now (ends .entry))) && isNameless (view rec) && isOneCarrier (view rec .dds)) ⌝ }
+    ensures { λ r. ⌜ r ≡ isCarrierAt (rowAt (now (text .entry)) gateway .path) (tokensOf (now (flat .entry)) (now (ends .entry))) (view rec) ⌝ }
 {
     if !has_levels(text, gateway, flat, ends) {
         return false;
@@ -92,7 +92,7 @@ pub fn is_carrier(text: &[u8], gateway: Row, rec: Record, flat: &[u8], ends: &[u
 
 // Writes the address that a value carries to the front of `dst`.
 fn write_value(dst: &mut [u8], value: DdValue) -> Written
-    requires { ⌜ 128 ≤ length (now dst) ⌝ }
+    requires { ⌜ longestCoded ≤ length (now dst) ⌝ }
     ensures { λ r. ⌜ Writing (inShape (decoded (ddValueView value))) r (now (dst .exit)) ⌝ }
 {
     let m = value.size();
@@ -105,7 +105,7 @@ fn write_value(dst: &mut [u8], value: DdValue) -> Written
 
 // The first n bytes of `dst`, if they are an address of accepted shape.
 fn as_address(dst: &[u8], n: usize) -> Written
-    requires { ⌜ (n ≤ length (now dst)) × (n ≤ 2048) ⌝ }
+    requires { ⌜ (n ≤ length (now dst)) × (n ≤ longestAddress) ⌝ }
     ensures { λ r. ⌜ Writing (inShape (some (take n (now (dst .entry))))) r (now (dst .entry)) ⌝ }
 {
     match read_shape(&dst[..n]) {
@@ -117,7 +117,7 @@ fn as_address(dst: &[u8], n: usize) -> Written
 
 // Writes the address that a record carries to the front of `dst`.
 pub fn write_carried(dst: &mut [u8], dds: Dds) -> Written
-    requires { ⌜ 128 ≤ length (now dst) ⌝ }
+    requires { ⌜ longestCoded ≤ length (now dst) ⌝ }
     ensures { λ r. ⌜ Writing (carriedAddress (ddsView dds)) r (now (dst .exit)) ⌝ }
 {
     let item = dds.item(0);

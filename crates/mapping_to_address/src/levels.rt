@@ -8,10 +8,13 @@ ghost use lib.ListN.{getD, length};
 ghost use Rattle.chars.specs.Write.{Wrote};
 ghost use Rattle.oraddr.specs.Attributes.{levels};
 ghost use Rattle.oraddr.specs.View.{view};
-ghost use Rattle.mapping.specs.Flat.{Flat};
+ghost use Rattle.mapping.specs.Flat.{Flat, endsRoom, levelsRoom};
 
 // Room for eight levels, each at most as long as the longest.
 pub const LEVELS_ROOM: usize = 512;
+
+// Room for where the first begins, and where each ends.
+pub const ENDS_ROOM: usize = 9;
 
 // Writes level k.
 fn put_level(dst: &mut [u8], at: usize, rec: Record, k: usize) -> usize
@@ -27,8 +30,8 @@ fn put_level(dst: &mut [u8], at: usize, rec: Record, k: usize) -> usize
 
 // Writes the levels of a record to the front of `flat`, and where they end to `ends`.
 pub fn flatten(rec: Record, flat: &mut [u8], ends: &mut [usize])
-    requires { ⌜ length (now flat) ≡ 512 ⌝ }
-    requires { ⌜ length (now ends) ≡ 9 ⌝ }
+    requires { ⌜ length (now flat) ≡ levelsRoom ⌝ }
+    requires { ⌜ length (now ends) ≡ endsRoom ⌝ }
     ensures { λ _. ⌜ Flat (levels (view rec)) (now (flat .exit)) (now (ends .exit)) ⌝ }
 {
     ends[0] = 0;

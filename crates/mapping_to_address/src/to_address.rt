@@ -1,6 +1,7 @@
 // Record to address.
 use crate::carrier::is_carrier;
 use crate::carrier::write_carried;
+use crate::levels::ENDS_ROOM;
 use crate::levels::LEVELS_ROOM;
 use crate::levels::flatten;
 use chars::write::put;
@@ -31,15 +32,12 @@ ghost use Rattle.chars.specs.Write.{Wrote};
 ghost use Rattle.oraddr.specs.Attributes.{levels};
 ghost use Rattle.oraddr.specs.Canonical.{canonicalRecord};
 ghost use Rattle.oraddr.specs.View.{view};
-ghost use Rattle.ortext_segments.specs.Keys.{keys};
-ghost use Rattle.ortext_write.specs.Write.{localText, remaining};
-ghost use Rattle.mailaddr.specs.Shape.{addressText};
-ghost use Rattle.table_lookup.specs.Looked.{Ended, levelTokens};
+ghost use Rattle.table_lookup.specs.Looked.{Ended, tokensOf};
 ghost use Rattle.table_lookup.specs.Lookup.{begins};
-ghost use Rattle.table.specs.Rows.{Inside, RowInside, between, rowAt};
-ghost use Rattle.mapping.specs.Answers.{Routed, Writing, outward, toldAddress};
+ghost use Rattle.table.specs.Rows.{Inside, RowInside, rowAt};
+ghost use Rattle.mapping.specs.Answers.{RoutedBy, RoutedUnder, Writing, addressRoom, outward, routedText, toldAddress};
 ghost use Rattle.mapping.specs.Flat.{Flat, fronts};
-ghost use Rattle.mapping.specs.ToAddress.{addressOf, extended, plan, planUnder, recordToAddress, toAddress};
+ghost use Rattle.mapping.specs.ToAddress.{addressOf, recordToAddress, toAddress};
 
 // Room for any local part, and for any address.
 const LOCAL_ROOM: usize = 1792;
@@ -50,8 +48,8 @@ pub const ADDRESS_ROOM: usize = 2560;
 fn route_under(text: &[u8], row: Row, flat: &[u8], ends: &[usize]) -> Route
     requires { ⌜ RowInside (now text) row ⌝ }
     requires { ⌜ Ended (now flat) (now ends) 8 ⌝ }
-    requires { ⌜ begins (rowAt (now text) row .path) (levelTokens (now flat) (now ends)) ≡ true ⌝ }
-    ensures { λ r. ⌜ Routed (now (text .entry)) (levelTokens (now (flat .entry)) (now (ends .entry))) (planUnder (rowAt (now (text .entry)) row) (levelTokens (now (flat .entry)) (now (ends .entry)))) r ⌝ }
+    requires { ⌜ begins (rowAt (now text) row .path) (tokensOf (now flat) (now ends)) ≡ true ⌝ }
+    ensures { λ r. ⌜ RoutedUnder (now (text .entry)) row (tokensOf (now (flat .entry)) (now (ends .entry))) r ⌝ }
 {
     let own = count_levels(text, row.path, row.path_end);
     let more = count_extension(flat, ends, own);
@@ -63,7 +61,7 @@ fn find_route(text: &[u8], to_domain: &[usize], table: Loaded, flat: &[u8], ends
     requires { ⌜ RowInside (now text) (table .gateway) ⌝ }
     requires { ⌜ Inside (now text) (now «to_domain») (table .«to_domain») ⌝ }
     requires { ⌜ Ended (now flat) (now ends) 8 ⌝ }
-    ensures { λ r. ⌜ Routed (now (text .entry)) (levelTokens (now (flat .entry)) (now (ends .entry))) (plan (outward (now (text .entry)) (now («to_domain» .entry)) table) (levelTokens (now (flat .entry)) (now (ends .entry)))) r ⌝ }
+    ensures { λ r. ⌜ RoutedBy (now (text .entry)) (outward (now (text .entry)) (now («to_domain» .entry)) table) (tokensOf (now (flat .entry)) (now (ends .entry))) r ⌝ }
 {
     match find_path(text, to_domain, table.to_domain, flat, ends) {
         Found::At(i) => route_under(text, row_at(to_domain, i), flat, ends),
@@ -107,12 +105,12 @@ fn write_routed(
     flat: &[u8],
     ends: &[usize],
 ) -> usize
-    requires { ⌜ length (now dst) ≡ 2560 ⌝ }
+    requires { ⌜ length (now dst) ≡ addressRoom ⌝ }
     requires { ⌜ canonicalRecord rec ≡ true ⌝ }
     requires { ⌜ Flat (levels (view rec)) (now flat) (now ends) ⌝ }
     requires { ⌜ RowInside (now text) (route .row) ⌝ }
     requires { ⌜ route .own + route .more ≤ 8 ⌝ }
-    ensures { λ r. ⌜ Wrote (now (dst .entry)) 0 (addressText (localText keys (remaining (route .own + route .more) (view rec))) (extended (between (now (text .entry)) (route .row .domain) (route .row .«domain_end»)) (take (route .more) (drop (route .own) (levels (view rec)))))) r (now (dst .exit)) ⌝ }
+    ensures { λ r. ⌜ Wrote (now (dst .entry)) 0 (routedText (now (text .entry)) route (view rec)) r (now (dst .exit)) ⌝ }
 {
     let own = route.own;
     let more = route.more;
@@ -135,14 +133,14 @@ pub fn write_address(
     table: Loaded,
     rec: Record,
 ) -> Written
-    requires { ⌜ length (now dst) ≡ 2560 ⌝ }
+    requires { ⌜ length (now dst) ≡ addressRoom ⌝ }
     requires { ⌜ RowInside (now text) (table .gateway) ⌝ }
     requires { ⌜ Inside (now text) (now «to_domain») (table .«to_domain») ⌝ }
     requires { ⌜ canonicalRecord rec ≡ true ⌝ }
     ensures { λ r. ⌜ Writing (addressOf (outward (now (text .entry)) (now («to_domain» .entry)) table) (view rec)) r (now (dst .exit)) ⌝ }
 {
     let mut flat = [0u8; LEVELS_ROOM];
-    let mut ends = [0usize; 9];
+    let mut ends = [0usize; ENDS_ROOM];
     flatten(rec, &mut flat, &mut ends);
     let gateway = table.gateway;
     if is_carrier(text, gateway, rec, &flat, &ends) {

@@ -1,5 +1,6 @@
 // Address to record.
 use crate::carrier::carry;
+use crate::carrier::refused;
 use chars::case::same_text;
 use mailaddr::domain::is_domain;
 use mailaddr::shape::LONGEST_ADDRESS;
@@ -10,7 +11,6 @@ use mailaddr::shape::read_shape;
 use mailaddr::shape::unquote_local;
 use mapping::answers::RecordAnswer;
 use mapping::answers::ToRecord;
-use oraddr::record::EMPTY;
 use oraddr::record::Record;
 use ortext_read::read::Answer;
 use ortext_read::read::Reading;
@@ -25,24 +25,15 @@ use table_settle::settle::settle;
 ghost use mathlib.Core.Path.{_≡_};
 ghost use Prim.Native.Nat.{_<_, _≤_};
 ghost use lib.ListN.{length};
-ghost use Rattle.oraddr.specs.View.{emptyRecord};
 ghost use Rattle.ortext_read.specs.Answers.{reading};
 ghost use Rattle.ortext_read.specs.Apply.{unread};
-ghost use Rattle.mailaddr.specs.Answers.{addressAt, localAt, shaped};
+ghost use Rattle.mailaddr.specs.Answers.{addressAt, localAt};
+ghost use Rattle.mailaddr.specs.Shape.{longestAddress};
 ghost use Rattle.table.specs.Rows.{Inside, RowInside};
 ghost use Rattle.table_settle.specs.Settle.{settlementAnswer};
-ghost use Rattle.mapping.specs.Answers.{inward, isGood, readSettled, readWell, recordLine, recordNumber, toldRecord};
+ghost use Rattle.mapping.specs.Answers.{inward, isGood, readSettled, readWell, recordParted, toldRecord};
 ghost use Rattle.mapping.specs.Carried.{settledUnder};
-ghost use Rattle.mapping.specs.ToRecord.{addressToRecord, recordBy, toRecord};
-
-fn refused(answer: RecordAnswer) -> ToRecord
-    ensures { λ r. ⌜ toldRecord r ≡ record { number = recordNumber answer; line = recordLine answer; record' = emptyRecord } ⌝ }
-{
-    ToRecord {
-        answer,
-        record: EMPTY,
-    }
-}
+ghost use Rattle.mapping.specs.ToRecord.{addressToRecord, toRecord};
 
 // Step 1: the levels that a domain settles; at the gateway's, none.
 fn settle_under(text: &[u8], to_path: &[usize], table: Loaded, domain: &[u8]) -> Settlement
@@ -56,7 +47,7 @@ fn settle_under(text: &[u8], to_path: &[usize], table: Loaded, domain: &[u8]) ->
     if same_text(&text[a..b], domain) {
         return Settlement {
             answer: Settled::Levels(0),
-            record: EMPTY,
+            record: Record::empty(),
         };
     }
     settle(text, to_path, table.to_path, domain)
@@ -67,7 +58,7 @@ fn unread() -> Reading
 {
     Reading {
         answer: Answer::Unread,
-        record: EMPTY,
+        record: Record::empty(),
     }
 }
 
@@ -83,7 +74,7 @@ fn read_over(rec: Record, n: usize, s: &[u8]) -> Reading
 
 // Steps 2 to 4 over n settled levels.
 fn read_under(rec: Record, n: usize, s: &[u8], parted: Parted) -> Reading
-    requires { ⌜ length (now s) ≤ 2048 ⌝ }
+    requires { ⌜ length (now s) ≤ longestAddress ⌝ }
     requires { ⌜ parted .at ≤ length (now s) ⌝ }
     ensures { λ r. ⌜ reading r ≡ readSettled n rec (localAt (now (s .entry)) parted) ⌝ }
 {
@@ -96,7 +87,7 @@ fn read_under(rec: Record, n: usize, s: &[u8], parted: Parted) -> Reading
 fn read_parted(text: &[u8], to_path: &[usize], table: Loaded, s: &[u8], parted: Parted) -> Reading
     requires { ⌜ RowInside (now text) (table .gateway) ⌝ }
     requires { ⌜ Inside (now text) (now «to_path») (table .«to_path») ⌝ }
-    requires { ⌜ length (now s) ≤ 2048 ⌝ }
+    requires { ⌜ length (now s) ≤ longestAddress ⌝ }
     requires { ⌜ parted .at < length (now s) ⌝ }
     ensures { λ r. ⌜ reading r ≡ readWell (inward (now (text .entry)) (now («to_path» .entry)) table) (addressAt (now (s .entry)) parted) ⌝ }
 {
@@ -134,9 +125,9 @@ fn is_good(done: Reading) -> bool
 fn map_shaped(text: &[u8], to_path: &[usize], table: Loaded, s: &[u8], parted: Parted) -> ToRecord
     requires { ⌜ RowInside (now text) (table .gateway) ⌝ }
     requires { ⌜ Inside (now text) (now «to_path») (table .«to_path») ⌝ }
-    requires { ⌜ length (now s) ≤ 2048 ⌝ }
+    requires { ⌜ length (now s) ≤ longestAddress ⌝ }
     requires { ⌜ parted .at < length (now s) ⌝ }
-    ensures { λ r. ⌜ toldRecord r ≡ recordBy (inward (now (text .entry)) (now («to_path» .entry)) table) (now (s .entry)) (shaped (addressAt (now (s .entry)) parted)) ⌝ }
+    ensures { λ r. ⌜ toldRecord r ≡ recordParted (inward (now (text .entry)) (now («to_path» .entry)) table) (now (s .entry)) parted ⌝ }
 {
     let done = read_parted(text, to_path, table, s, parted);
     if is_good(done) {

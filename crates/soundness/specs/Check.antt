@@ -24,14 +24,14 @@ use Rattle.soundness.specs.declared.answers.Checked.{Checked}
 use Rattle.soundness.specs.Tokens.{Back, Tried, fitsFrom, pad}
 
 -- a record with the surname Lee, so that it is no carrier
-unfoldable pub named : Record → Record
+unfoldable pub withSurname : Record → Record
 unfolding addSingle bytes
-named r = addSingle r S (bytes "Lee") .record'
+withSurname r = addSingle r S (bytes "Lee") .record'
 
 -- the record of levels, and that name
 unfoldable pub candidateOf : List Token → Record
-unfolding named addLevels
-candidateOf ts = named (addLevels 0 ts (begun emptyRecord) .record')
+unfolding withSurname addLevels
+candidateOf ts = withSurname (addLevels 0 ts (begun emptyRecord) .record')
 
 -- The first candidates of an R row come back: the levels of its path; with a fresh PRMD where it has two fields; with a fresh O where it
 -- omits PRMD and ends there.

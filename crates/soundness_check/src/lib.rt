@@ -1,3 +1,2 @@
 // The table check (document 01, "What comes back").
-pub mod candidate;
 pub mod check;

@@ -27,7 +27,7 @@ use Rattle.ortext_write.proofs.Laws.Write.{text-bound}
 use Rattle.table.specs.Lines.{TableOutcome, loadedFrom, malformed, wellFormed}
 use Rattle.table.specs.Table.{Table}
 use Rattle.table.proofs.Laws.Formed.{loaded-formed}
-use Rattle.mapping.specs.Answers.{addressLine, addressNumber, recordLine, recordNumber, toldAddress, toldRecord}
+use Rattle.mapping.specs.Answers.{addressBadLine, addressNumber, recordBadLine, recordNumber, toldAddress, toldRecord}
 use Rattle.mapping.specs.Results.{AddressResult, RecordResult, malformedRecord, placed, refusedAddress}
 use Rattle.mapping.specs.ToAddress.{recordToAddress, toAddress, toAddressBy}
 use Rattle.mapping.specs.ToRecord.{addressToRecord, toRecordBy}
@@ -71,8 +71,8 @@ loaded-canonical table s (malformed n) e h = absurd (omega arith)
 loaded-canonical table s (wellFormed t) e h = done-canonical t (loaded-formed table t e) s h
 
 -- a refusal has a line only with 7
-refused-packed : (a : RecordAnswer) → recordNumber a + 16 * recordLine a ≡ recordNumber a + 16 * cond (eqb (recordNumber a) 7) (recordLine a) 0
-unfolding recordNumber recordLine
+refused-packed : (a : RecordAnswer) → recordNumber a + 16 * recordBadLine a ≡ recordNumber a + 16 * cond (eqb (recordNumber a) 7) (recordBadLine a) 0
+unfolding recordNumber recordBadLine
 refused-packed record-answer.Done = refl
 refused-packed record-answer.NoShape = refl
 refused-packed record-answer.TooLong = refl
@@ -96,11 +96,11 @@ module _ (table s old : List ℕ) (x : ToRecord) (e : toldRecord x ≡ addressTo
   unfolding toldRecord
   record-is = ap (λ (o : RecordResult). o .record') (sym e)
 
-  line-is : addressToRecord table s .line ≡ recordLine (x .answer)
+  line-is : addressToRecord table s .line ≡ recordBadLine (x .answer)
   unfolding toldRecord
   line-is = ap (λ (o : RecordResult). o .line) (sym e)
 
-  pub line-small : recordLine (x .answer) ≤ mostCount
+  pub line-small : recordBadLine (x .answer) ≤ mostCount
   line-small = omega (arith, line-is, record-line-bound table s)
 
   pub text-canonical : n ≡ 0 → canonicalRecord (x .«record») ≡ true
@@ -111,7 +111,7 @@ module _ (table s old : List ℕ) (x : ToRecord) (e : toldRecord x ≡ addressTo
   unfolding addressToText textResult
   text-done z = rw (number-is, z, record-is)
 
-  pub text-not : (n ≡ 0 → ⊥) → (r : ℕ) → r ≡ n + 16 * recordLine (x .answer) → Exported (addressToText table s old) r old
+  pub text-not : (n ≡ 0 → ⊥) → (r : ℕ) → r ≡ n + 16 * recordBadLine (x .answer) → Exported (addressToText table s old) r old
   unfolding addressToText textResult packed
   text-not z r h =
       record {
@@ -121,12 +121,12 @@ module _ (table s old : List ℕ) (x : ToRecord) (e : toldRecord x ≡ addressTo
 
 -- the text of a canonical record is short
 pub text-counts : (r : Record) (old new : List ℕ) (w : ToAddress) → canonicalRecord r ≡ true → toldAddress w new ≡ placed (recordText keys (view r)) old
-    → (w .size ≤ mostCount) × (addressLine (w .answer) ≤ mostCount)
+    → (w .size ≤ mostCount) × (addressBadLine (w .answer) ≤ mostCount)
 unfolding toldAddress remaining
 text-counts r old new w c e =
     let s : List ℕ = recordText keys (view r) in
     let n : w .size ≡ placed s old .size = ap (λ (o : AddressResult). o .size) e in
-    let m : addressLine (w .answer) ≡ placed s old .line = ap (λ (o : AddressResult). o .line) e in
+    let m : addressBadLine (w .answer) ≡ placed s old .line = ap (λ (o : AddressResult). o .line) e in
     (omega (arith, placed-size s old, text-bound (view r) (canonical-view r c) 0), omega (arith, placed-line s old))
 
 -- ---- a record text to an address
@@ -167,11 +167,11 @@ unfolding recordToAddress textToAddress
 text-to-address table s old d e = ap (λ (o : Outcome). toAddressBy (loadedFrom table) (o .record') old) e ∙ text-address (loadedFrom table) s old
 
 pub address-counts : (table : List ℕ) (r : Record) (old new : List ℕ) (w : ToAddress) → toldAddress w new ≡ recordToAddress table r old
-    → (w .size ≤ mostCount) × (addressLine (w .answer) ≤ mostCount)
+    → (w .size ≤ mostCount) × (addressBadLine (w .answer) ≤ mostCount)
 unfolding toldAddress
 address-counts table r old new w e =
     let n : w .size ≡ recordToAddress table r old .size = ap (λ (o : AddressResult). o .size) e in
-    let m : addressLine (w .answer) ≡ recordToAddress table r old .line = ap (λ (o : AddressResult). o .line) e in
+    let m : addressBadLine (w .answer) ≡ recordToAddress table r old .line = ap (λ (o : AddressResult). o .line) e in
     (omega (arith, address-bound old table r .0), omega (arith, address-bound old table r .1))
 
 -- ---- the check

@@ -24,7 +24,7 @@ use Rattle.oraddr.specs.View.{emptyRecord}
 use Rattle.oraddr.specs.declared.add.Addition.{Addition}
 use Rattle.oraddr.specs.declared.record.Record.{Record}
 use Rattle.mailaddr.specs.Code.{coded, decoded}
-use Rattle.mailaddr.specs.Shape.{Address, shapeOf}
+use Rattle.mailaddr.specs.Shape.{Address, longestAddress, shapeOf}
 use Rattle.mailaddr.specs.Answers.{Decoding, fromShape, shapeAnswer, shaping}
 use Rattle.mailaddr.specs.declared.code.Decoded.the-variants.{Length}
 use Rattle.mailaddr.specs.declared.shape.ShapeRead.{ShapeRead}
@@ -38,23 +38,23 @@ use Rattle.table_settle.specs.Settle.{addLevels, begun}
 use Rattle.table_lookup.proofs.Laws.Begins.{begins-length}
 use Rattle.table_lookup.proofs.Laws.Paths.{empty-same}
 use Rattle.mapping.specs.Results.{mapped, refusedRecord}
-use Rattle.mapping.specs.Carried.{carrierOf, carrierType, carrying, isNone}
+use Rattle.mapping.specs.Carried.{carrierOf, carrierType, carrying, isNone, longestCoded}
 use Rattle.mapping.specs.ToAddress.{carriedValue, hasLevels, inShape, isOneCarrier}
 
 -- ---- an address carried under a path
 
 module _ (ls : List Token) (s : List ℕ) where
-  pub carrying-long : 128 < length (coded s) → refusedRecord 3 ≡ carrying ls s
+  pub carrying-long : longestCoded < length (coded s) → refusedRecord 3 ≡ carrying ls s
   unfolding carrying
-  carrying-long h = rw (lt-ltb 128 (length (coded s)) h)
+  carrying-long h = rw (lt-ltb longestCoded (length (coded s)) h)
 
   -- the path added to an empty record, and then the DD
-  pub carrying-done : (e : Record) (p d : Addition) → length (coded s) ≤ 128 → e ≡ emptyRecord → told p ≡ addLevels 0 ls (begun e) → told d ≡ addDd (p .record) carrierType (coded s)
+  pub carrying-done : (e : Record) (p d : Addition) → length (coded s) ≤ longestCoded → e ≡ emptyRecord → told p ≡ addLevels 0 ls (begun e) → told d ≡ addDd (p .record) carrierType (coded s)
       → mapped (d .record) ≡ carrying ls s
   unfolding carrying carrierOf
   carrying-done e p d h z a b =
       let q : p .record ≡ addLevels 0 ls (begun emptyRecord) .record' = ap (λ o. o .record') a ∙ ap (λ (r : Record). addLevels 0 ls (begun r) .record') z in
-      rw (le-ltb 128 (length (coded s)) h)
+      rw (le-ltb longestCoded (length (coded s)) h)
       (ap mapped (ap (λ o. o .record') b ∙ ap (λ (r : Record). addDd r carrierType (coded s) .record') q))
 
 -- what the first bytes of a buffer are, into which a text was put that fits
@@ -174,6 +174,6 @@ shape-read s TooLong (some a) e = let z : _≡_ {A = ℕ} 0 1 = cc in absurd (om
 shape-read s NoShape none e = refl
 shape-read s NoShape (some a) e = let z : _≡_ {A = ℕ} 0 1 = cc in absurd (omega arith)
 
-pub in-shape : (s : List ℕ) (r : ShapeRead) → length s ≤ 2048 → shapeAnswer s r ≡ shaping s → inShape (some s) ≡ inRead s r
+pub in-shape : (s : List ℕ) (r : ShapeRead) → length s ≤ longestAddress → shapeAnswer s r ≡ shaping s → inShape (some s) ≡ inRead s r
 unfolding inShape shaping
-in-shape s r l e = shape-read s r (shapeOf s) (e ∙ rw (le-ltb 2048 (length s) l))
+in-shape s r l e = shape-read s r (shapeOf s) (e ∙ rw (le-ltb longestAddress (length s) l))

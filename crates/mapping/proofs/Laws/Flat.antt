@@ -31,7 +31,7 @@ use Rattle.table.specs.Table.{Token}
 use Rattle.table.specs.Rows.{between}
 use Rattle.table_lookup.specs.Looked.{Ended, tokensFrom, levelTokens}
 use Rattle.table.proofs.Laws.Fields.{between-length, region}
-use Rattle.mapping.specs.Flat.{Flat, fronts}
+use Rattle.mapping.specs.Flat.{Flat, fronts, levelsRoom}
 use Rattle.mapping.specs.ToAddress.{extended}
 
 -- ---- the levels by where they end
@@ -138,8 +138,8 @@ module _ (ls : List Token) (flat new ends : List ℕ) (k n next : ℕ) (room : k
             (record { ordered = omega (arith, ends-there, w .moved); low = omega (arith, ends-there); holds = rw (e, ends-there) (written w (omega (arith, w .moved))) });
       }
 
-pub filled-all : (ls : List Token) (n : ℕ) (flat ends : List ℕ) → length ls ≡ 8 → 8 < length ends → n ≤ length flat → n ≤ 512 → Filled ls 8 n flat ends → Flat ls flat ends
-unfolding levelTokens
+pub filled-all : (ls : List Token) (n : ℕ) (flat ends : List ℕ) → length ls ≡ 8 → 8 < length ends → n ≤ length flat → n ≤ levelsRoom → Filled ls 8 n flat ends → Flat ls flat ends
+unfolding tokensOf
 filled-all ls n flat ends e room within m f =
     record {
       ended = record { room = room; ordered = λ k l. f .each k l .ordered; inside = λ k l. omega (arith, f .each k l .low) };

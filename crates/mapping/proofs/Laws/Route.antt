@@ -1,7 +1,7 @@
 -- Laws of how a record goes out: the route under a row and at the gateway, how long its address is, and the address that was written.
 -- Assumes nothing.
 use mathlib.Core.Path.{_≡_, refl, sym, ap, _∙_}
-use mathlib.Core.Bool.{true, false, _&&_, cond}
+use mathlib.Core.Bool.{true, false, cond}
 use mathlib.Core.List.{List, _∷_, _++_}
 use mathlib.Core.Option.{Option, none, some}
 use Prim.Native.Nat.{ℕ, _+_, _≤_}
@@ -35,10 +35,10 @@ use Rattle.table.specs.declared.load.TableRead.the-variants.{Malformed as Table
 use Rattle.table_lookup.specs.declared.lookup.Found.the-variants.{At, Nowhere}
 use Rattle.table.proofs.Laws.Fields.{between-length}
 use Rattle.table_lookup.proofs.Laws.Lookup.{extension-front}
-use Rattle.mapping.specs.Answers.{Fronted, Routed, addressLine, addressNumber, outward, toldAddress}
+use Rattle.mapping.specs.Answers.{Fronted, Routed, addressBadLine, addressNumber, addressRoom, outward, routedText, toldAddress}
 use Rattle.mapping.specs.Flat.{Flat, fronts}
 use Rattle.mapping.specs.Results.{malformedAddress, placed, refusedAddress}
-use Rattle.mapping.specs.ToAddress.{Plan, addressOf, carriedAddress, extended, hasLevels, isCarrier, isNameless, isOneCarrier, placedIn, plan, planBy, planUnder, planned, recordToAddress, toAddress, toAddressBy}
+use Rattle.mapping.specs.ToAddress.{Plan, addressOf, carriedAddress, extended, isCarrier, isCarrierAt, placedIn, plan, planBy, planUnder, planned, recordToAddress, toAddress, toAddressBy}
 use Rattle.mapping.specs.declared.answers.AddressAnswer.the-variants.{Malformed, NoAddress, NotCanonical}
 use Rattle.mapping.specs.declared.answers.Route.{Route}
 use Rattle.mapping.proofs.Laws.Flat.{extended-fronts, length-fronts}
@@ -99,7 +99,7 @@ length-row s row h = omega (arith, between-length s (row .domain) (row .«domain
 -- the whole of it: less than the room for any address
 pub length-routed : (r : Record) (s flat ends : List ℕ) (route : Route) → canonicalRecord r ≡ true → Flat (levels (view r)) flat ends → RowInside s (route .row)
     → route .own + route .more ≤ 8
-    → length (addressText (localText keys (remaining (route .own + route .more) (view r))) (extended (between s (route .row .domain) (route .row .«domain_end»)) (take (route .more) (drop (route .own) (levels (view r)))))) ≤ 2560
+    → length (routedText s route (view r)) ≤ addressRoom
 unfolding addressText
 length-routed r s flat ends route h f i few =
     let u : List ℕ = localText keys (remaining (route .own + route .more) (view r)) in
@@ -125,10 +125,10 @@ module _ (t : Table) (a : Attributes) where
 
 -- the test of the code is the definition's
 pub carrier-test : (s rs flat ends : List ℕ) (t : load.Loaded.Loaded) (a : Attributes) → Flat (levels a) flat ends
-    → (hasLevels (rowAt s (t .gateway) .path) (levelTokens flat ends) && isNameless a && isOneCarrier (a .dds)) ≡ isCarrier (outward s rs t) a
+    → isCarrierAt (rowAt s (t .gateway) .path) (tokensOf flat ends) a ≡ isCarrier (outward s rs t) a
 unfolding isCarrier
 carrier-test s rs flat ends t a f =
-    ap (λ (ls : List Token). hasLevels (rowAt s (t .gateway) .path) ls && isNameless a && isOneCarrier (a .dds)) (f .holds)
+    ap (λ (ls : List Token). isCarrierAt (rowAt s (t .gateway) .path) ls a) (f .holds)
 
 pub planned-route : {s : List ℕ} {ls : List Token} {p : Plan} {r : Route} (a : Attributes) → Routed s ls p r
     → planned p a ≡ addressText (localText keys (remaining (r .own + r .more) a)) (extended (between s (r .row .domain) (r .row .«domain_end»)) (take (r .more) (drop (r .own) ls)))
@@ -139,11 +139,11 @@ planned-route a h = rw (h .from, h .domain)
 
 module _ (t : Table) (r : Record) (old : List ℕ) where
   pub answer-not : canonicalRecord r ≡ false → toldAddress (record { answer = NotCanonical; size = 0 }) old ≡ toAddress t r old
-  unfolding toldAddress addressNumber addressLine toAddress refusedAddress
+  unfolding toldAddress addressNumber addressBadLine toAddress refusedAddress
   answer-not h = rw h
 
   pub answer-none : canonicalRecord r ≡ true → addressOf t (view r) ≡ none → toldAddress (record { answer = NoAddress; size = 0 }) old ≡ toAddress t r old
-  unfolding toldAddress addressNumber addressLine toAddress placedIn refusedAddress
+  unfolding toldAddress addressNumber addressBadLine toAddress placedIn refusedAddress
   answer-none h e = rw (h, e)
 
   pub answer-placed : (s : List ℕ) → canonicalRecord r ≡ true → addressOf t (view r) ≡ some s → placed s old ≡ toAddress t r old
@@ -174,5 +174,5 @@ module _ (s ds rs : List ℕ) (r : Record) (old : List ℕ) where
   answer-table t h = address-table s ds rs t r old ∙ ap (λ (l : TableOutcome). toAddressBy l r old) (h .answers)
 
   pub answer-malformed : (n : ℕ) → Loading s (loadedFrom s) (TableMalformed n) ds rs → toldAddress (record { answer = Malformed n; size = 0 }) old ≡ recordToAddress s r old
-  unfolding toldAddress addressNumber addressLine recordToAddress toAddressBy malformedAddress loadAnswer
-  answer-malformed n h = ap (λ (l : TableOutcome). toAddressBy l r old) (h .answers)
+  unfolding toldAddress addressNumber addressBadLine recordToAddress toAddressBy malformedAddress loadAnswer
+  answer-malformed n h = ap (λ (l : Loaded). toAddressBy l r old) (h .answers)

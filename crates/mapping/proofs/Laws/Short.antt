@@ -17,11 +17,11 @@ use Rattle.oraddr.specs.declared.record.Record.{Record}
 use Rattle.oraddr.proofs.Laws.Canonical.{canonical-parts, canonical-view}
 use Rattle.oraddr.proofs.Laws.View.{value-length}
 use Rattle.mailaddr.specs.Code.{decoded}
-use Rattle.mailaddr.specs.Shape.{shapeOf}
+use Rattle.mailaddr.specs.Shape.{longestAddress, shapeOf}
 use Rattle.mailaddr.proofs.Laws.Code.{decoded-length}
 use Rattle.table.specs.Formed.{Formed}
 use Rattle.table.specs.Table.{Table}
-use Rattle.mapping.specs.Carried.{isNone}
+use Rattle.mapping.specs.Carried.{isNone, longestCoded}
 use Rattle.mapping.specs.ToAddress.{addressOf, carriedAddress, carriedValue, inShape, isCarrier}
 use Rattle.mapping.proofs.Laws.Route.{address-carried, address-planned}
 use Rattle.mapping.proofs.Laws.Sent.{sent-short}
@@ -35,18 +35,18 @@ shape-of (some u) s h =
     (λ e. let n : _≡_ {A = Option (List ℕ)} none (some s) = rw e at h in let z : _≡_ {A = ℕ} 0 1 = cc in absurd (omega arith))
     (λ e. rw e at h)
 
-value-short : (ds : List Dd) → all isDd ds ≡ true → length (carriedValue ds) ≤ 128
+value-short : (ds : List Dd) → all isDd ds ≡ true → length (carriedValue ds) ≤ longestCoded
 unfolding carriedValue all isDd
 value-short [] h = zero-le
 value-short (d ∷ ds) h =
     value-length DD-VALUE (d .value) (and-right (isValue DD-TYPE (d .kind)) (isValue DD-VALUE (d .value)) (and-left (isDd d) (all isDd ds) h))
 
-carried-short : (ds : List Dd) (s : List ℕ) → all isDd ds ≡ true → carriedAddress ds ≡ some s → length s ≤ 128
+carried-short : (ds : List Dd) (s : List ℕ) → all isDd ds ≡ true → carriedAddress ds ≡ some s → length s ≤ longestCoded
 unfolding carriedAddress
 carried-short ds s h e = omega (arith, decoded-length (carriedValue ds) s (shape-of (decoded (carriedValue ds)) s e), value-short ds h)
 
-pub address-short : (t : Table) → Formed t → (r : Record) (s : List ℕ) → canonicalRecord r ≡ true → addressOf t (view r) ≡ some s → length s ≤ 2048
+pub address-short : (t : Table) → Formed t → (r : Record) (s : List ℕ) → canonicalRecord r ≡ true → addressOf t (view r) ≡ some s → length s ≤ longestAddress
 address-short t f r s c a =
     by-test (isCarrier t (view r))
     (λ k. omega (arith, carried-short (view r .dds) s (canonical-parts (view r) (canonical-view r c) .dds) (sym (address-carried t (view r) k) ∙ a)))
-    (λ k. subst (λ (u : List ℕ). length u ≤ 2048) (Option·some-injective _ s (sym (address-planned t (view r) k) ∙ a)) (sent-short t f r c))
+    (λ k. subst (λ (u : List ℕ). length u ≤ longestAddress) (Option·some-injective _ s (sym (address-planned t (view r) k) ∙ a)) (sent-short t f r c))

@@ -45,7 +45,7 @@ use Rattle.table_settle.proofs.Laws.Settle.{level-single, level-unit, levels-st
 use Rattle.table_settle.proofs.Laws.Settled.{LevelsMade, field-there, levelled, levelled-kept, levelled-levels, levelled-units, levels-made}
 use Rattle.table_lookup.proofs.Laws.Tails.{fold-parts, tail-place, tail-whole}
 use Rattle.mapping.specs.ToAddress.{hasLevels, isCarrier, isNameless, isOneCarrier}
-use Rattle.soundness.specs.Check.{SecondBack, candidateOf, named}
+use Rattle.soundness.specs.Check.{SecondBack, candidateOf, withSurname}
 use Rattle.soundness.specs.Fits.{fits}
 use Rattle.soundness.specs.Folded.{domainRow, foldTokens, tokenTable}
 use Rattle.soundness.specs.Labels.{fresh, label, oddLabel}
@@ -137,11 +137,11 @@ module _ (ts : List Token) (h : areFields 0 ts ≡ true) (eight : length ts ≤ 
   bare-made = levels-made ts h eight .1
 
   candidate-made : Made (candidateOf ts)
-  unfolding candidateOf named
+  unfolding candidateOf withSurname
   candidate-made = made-single bare (bare-made .made) S (bytes "Lee") (omega arith)
 
   candidate-shows : view (candidateOf ts) ≡ namedShow ts
-  unfolding candidateOf named
+  unfolding candidateOf withSurname
   candidate-shows =
       single-added bare (bare-made .made) S (bytes "Lee") surname-rule (ap (λ (a : Attributes). singleOf a S) (bare-made .shows) ∙ surname ts .before) .1
       ∙ ap (λ (a : Attributes). record { single = set (a .single) S (bytes "Lee"); units = a .units; dds = a .dds }) (bare-made .shows)
@@ -411,9 +411,9 @@ module _ (t : Table) (f : Formed t) (r : Row) (m : List·Memᴰ r (t .toDomain))
 
   -- they are settled
   module _ (n : ℕ) (q : Record) (h : settledFrom (some (r .path ++ left)) ≡ settled n q) where
-    pub second-named : named q ≡ candidateOf (r .path ++ left)
+    pub second-named : withSurname q ≡ candidateOf (r .path ++ left)
     unfolding candidateOf
-    second-named = ap named (sym (settled-added (r .path ++ left) n q h .2))
+    second-named = ap withSurname (sym (settled-added (r .path ++ left) n q h .2))
 
     pub second-candidate : IsCandidate t (r .path ++ left)
     second-candidate =
@@ -421,7 +421,7 @@ module _ (t : Table) (f : Formed t) (r : Row) (m : List·Memᴰ r (t .toDomain))
         candidate t (r .path ++ left) (added-behind 0 (r .path) left (begun emptyRecord) (fields t f r m) left-there (p .1))
         (omega (arith, length-append (r .path) left, two t f r m)) (p .0)
 
-    pub second-back : comesBack t (named q) ≡ true → SecondBack t r d
+    pub second-back : comesBack t (withSurname q) ≡ true → SecondBack t r d
     second-back b z e one eight within =
         candidate-back t f (r .path ++ left) (domainRow r .key ++ z) second-candidate
         (map-append foldText (r .path) left ∙ ap (λ (x : List Tok). domainRow r .key ++ x) (left-fold z e))

@@ -24,7 +24,8 @@ use Rattle.oraddr.specs.declared.record.Record.{Record}
 use Rattle.table.specs.Formed.{Formed}
 use Rattle.table_settle.specs.Settle.{addLevel, addLevels, begun}
 use Rattle.table.specs.Table.{Table, Token}
-use Rattle.mapping.specs.Answers.{addressNumber, recordNumber, toldAddress, toldRecord}
+use Rattle.mailaddr.specs.Shape.{longestAddress}
+use Rattle.mapping.specs.Answers.{addressNumber, addressRoom, recordNumber, toldAddress, toldRecord}
 use Rattle.mapping.specs.Results.{AddressResult, RecordResult}
 use Rattle.mapping.specs.ToAddress.{toAddress}
 use Rattle.mapping.specs.ToRecord.{toRecord}
@@ -32,7 +33,7 @@ use Rattle.mapping.specs.declared.answers.ToAddress.{ToAddress}
 use Rattle.mapping.specs.declared.answers.RecordAnswer.the-variants.{Done}
 use Rattle.mapping.specs.declared.answers.ToRecord.{ToRecord}
 use Rattle.mapping.proofs.Laws.Short.{address-short}
-use Rattle.soundness.specs.Check.{candidateOf, named}
+use Rattle.soundness.specs.Check.{candidateOf, withSurname}
 use Rattle.soundness.specs.Sound.{backBy, comesBack, textOf}
 use Rattle.soundness.proofs.Laws.Comes.{given, refused}
 
@@ -48,13 +49,13 @@ levels-behind k (g ∷ fs) f o h =
 
 -- the levels added to an empty record, and then the token
 pub token-behind : (fs : List Token) (f : Token) (k : ℕ) (e : Record) (a b : Addition) → k ≡ length fs → addLevels 0 fs (begun emptyRecord) .number ≡ 0
-    → e ≡ emptyRecord → told a ≡ addLevels 0 fs (begun e) → told b ≡ addLevel k f (a .«record») → named (b .«record») ≡ candidateOf (fs ++ f ∷ [])
+    → e ≡ emptyRecord → told a ≡ addLevels 0 fs (begun e) → told b ≡ addLevel k f (a .«record») → withSurname (b .«record») ≡ candidateOf (fs ++ f ∷ [])
 unfolding candidateOf
 token-behind fs f k e a b l h z p q =
     let n : k ≡ 0 + length fs = omega arith in
     let r : a .«record» ≡ addLevels 0 fs (begun emptyRecord) .record' = ap (λ o. o .record') p ∙ ap (λ (r : Record). addLevels 0 fs (begun r) .record') z in
     let m : addLevel k f (a .«record») ≡ addLevels 0 (fs ++ f ∷ []) (begun emptyRecord) = rw (r, n) (sym (levels-behind 0 fs f (begun emptyRecord) h)) in
-    ap (λ (o : Outcome). named (o .record')) (q ∙ m)
+    ap (λ (o : Outcome). withSurname (o .record')) (q ∙ m)
 
 -- ---- whether an address becomes the record
 
@@ -83,7 +84,7 @@ module _ (t : Table) (f : Formed t) (r : Record) where
       (λ c. address-short t f r s c (rw c at e))
       (λ c. let n : _≡_ {A = Option (List ℕ)} none (some s) = rw c at e in let z : _≡_ {A = ℕ} 0 1 = cc in absurd (omega arith))
 
-  module _ (x : ToAddress) (old new : List ℕ) (l : length old ≡ 2560) (e : toldAddress x new ≡ toAddress t r old) where
+  module _ (x : ToAddress) (old new : List ℕ) (l : length old ≡ addressRoom) (e : toldAddress x new ≡ toAddress t r old) where
     placed-text : (s : List ℕ) → textOf t r ≡ some s → toldAddress x new ≡ record { number = 0; line = 0; size = length s; buffer = front s old }
     placed-text s k = e ∙ given t r s old k (omega (arith, text-short s k))
 

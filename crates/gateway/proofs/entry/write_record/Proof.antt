@@ -2,7 +2,7 @@
 -- Assumes nothing.
 use mathlib.Core.Path.{sym, ap, _∙_}
 use borrow.Author.Tests.{not-false, not-true}
-use Rattle.mapping.specs.Answers.{addressLine, addressNumber, toldAddress}
+use Rattle.mapping.specs.Answers.{addressBadLine, addressNumber, toldAddress}
 use Rattle.mapping.specs.Results.{refusedAddress}
 use Rattle.mapping.specs.declared.answers.ToAddress.{ToAddress}
 use Rattle.gateway.specs.Texts.{textOfRecord}
@@ -17,7 +17,7 @@ refused-requires : tie.Need-refused-requires
 refused-requires c κs = search needs
 
 returns : tie.Need-returns
-unfolding textOfRecord toldAddress addressNumber addressLine refusedAddress
+unfolding textOfRecord toldAddress addressNumber addressBadLine refusedAddress
 returns c =
     let i = c .before .before .is-canonical in
     let a = c .before .before .before .before .args in

@@ -7,7 +7,7 @@ use borrow.Author.Needs.{needs}
 use borrow.Author.Tests.{le-ltb, lt-ltb}
 use lib.ListN.{length}
 use Rattle.chars.proofs.Laws.Write.{wrote-front}
-use Rattle.mapping.specs.Answers.{addressLine, addressNumber, toldAddress}
+use Rattle.mapping.specs.Answers.{addressBadLine, addressNumber, toldAddress}
 use Rattle.mapping.specs.Results.{placed, refusedAddress}
 use Rattle.mapping.proofs.answers.place.Statement.{statement}
 use Rattle.mapping.proofs.answers.place.Tie as tie
@@ -16,7 +16,7 @@ refused-requires : tie.Need-refused-requires
 refused-requires c κs = search needs
 
 returns : tie.Need-returns
-unfolding toldAddress addressNumber addressLine placed refusedAddress
+unfolding toldAddress addressNumber addressBadLine placed refusedAddress
 returns c =
     let a = c .before .before .before .before .args in
     rw (c .refused .ensures, lt-ltb (length (a .out .now)) (length (a .s .now)) (search needs))
@@ -28,7 +28,7 @@ same-length : tie.Need-same-length
 same-length c = search needs
 
 returns-2 : tie.Need-returns-2
-unfolding toldAddress addressNumber addressLine placed
+unfolding toldAddress addressNumber addressBadLine placed
 returns-2 c =
     let a = c .before .before .before .before .before .before .before .args in
     let w = c .before .before .put .ensures in

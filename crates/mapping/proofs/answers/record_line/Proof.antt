@@ -1,7 +1,7 @@
 -- `mapping::answers::record_line` meets its contract.
 -- Assumes nothing.
 use borrow.Author.Needs.{needs}
-use Rattle.mapping.specs.Answers.{recordLine}
+use Rattle.mapping.specs.Answers.{recordBadLine}
 use Rattle.mapping.proofs.answers.record_line.Statement.{statement}
 use Rattle.mapping.proofs.answers.record_line.Tie as tie
 
@@ -21,23 +21,23 @@ enum-known-answer : tie.Need-enum-known-answer
 enum-known-answer c = search needs
 
 returns : tie.Need-returns
-unfolding recordLine
+unfolding recordBadLine
 returns c = rw (c .enum-told .given .1)
 
 returns-2 : tie.Need-returns-2
-unfolding recordLine
+unfolding recordBadLine
 returns-2 c = rw (c .enum-told2 .given .1)
 
 returns-3 : tie.Need-returns-3
-unfolding recordLine
+unfolding recordBadLine
 returns-3 c = rw (c .enum-told3 .given .1)
 
 returns-4 : tie.Need-returns-4
-unfolding recordLine
+unfolding recordBadLine
 returns-4 c = rw (c .enum-told4 .given .1)
 
 returns-5 : tie.Need-returns-5
-unfolding recordLine
+unfolding recordBadLine
 returns-5 c = rw (c .before .answer .given .1)
 
 pub record-line-spec : {M : Type 1} → statement M

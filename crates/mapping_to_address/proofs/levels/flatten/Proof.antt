@@ -9,13 +9,14 @@ use lib.ListN.{length, getD, length-map, length-set}
 use Rattle.chars.proofs.Laws.Write.{wrote-length}
 use Rattle.oraddr.specs.Attributes.{levels}
 use Rattle.oraddr.specs.View.{singlesView, unitView, valueView, view}
+use Rattle.mapping.specs.Flat.{endsRoom, levelsRoom}
 use Rattle.mapping.proofs.Laws.Flat.{Filled, all-good, filled-all, filled-more, filled-none, isShort, length-levels, level-short, short-part}
 use Rattle.mapping_to_address.proofs.levels.flatten.Statement.{statement}
 use Rattle.mapping_to_address.proofs.levels.flatten.Tie as tie
 
 abbrev Inv-loop : tie.InvT-loop
 Inv-loop rec flat₀ ends₀ n₀ k₀ flat ends n k =
-    (k ≤ 8) × (length flat ≡ 512) × (length ends ≡ 9) × (n ≤ 64 * k) × Filled (levels (view rec)) k n flat ends
+    (k ≤ 8) × (length flat ≡ levelsRoom) × (length ends ≡ endsRoom) × (n ≤ 64 * k) × Filled (levels (view rec)) k n flat ends
 
 abbrev μ-loop : tie.MeasureT-loop
 μ-loop rec flat₀ ends₀ n₀ k₀ flat ends n k = 8 - k

@@ -4,8 +4,8 @@ use mathlib.Core.Path.{_≡_, sym, ap, _∙_}
 use mathlib.Core.Option.{some}
 use Rattle.oraddr.specs.Attributes.{levels}
 use Rattle.oraddr.specs.View.{view}
-use Rattle.mapping.specs.Answers.{Routed, outward}
-use Rattle.mapping.specs.ToAddress.{isCarrier, plan}
+use Rattle.mapping.specs.Answers.{RoutedBy, outward}
+use Rattle.mapping.specs.ToAddress.{isCarrier}
 use Rattle.mapping.proofs.Laws.Route.{address-carried, address-planned, carrier-test, length-routed, planned-route, wrote-fronted}
 use borrow.Author.Needs.{needs}
 use Rattle.mapping_to_address.proofs.to_address.write_address.Statement.{statement}
@@ -68,7 +68,7 @@ slice-aggregate-write-routed-2 c = search needs
 
 -- the route is the plan of the record
 routed : (c : tie.After-find-route) → let a = c .before .before .before .before .before .before .before .before .before .before .before .before .before .before .before .before .args in
-    Routed (a .text .now) (levels (view (a .rec))) (plan (outward (a .text .now) (a .to-domain .now) (a .table)) (levels (view (a .rec)))) (c .find-route .result)
+    RoutedBy (a .text .now) (outward (a .text .now) (a .to-domain .now) (a .table)) (levels (view (a .rec))) (c .find-route .result)
 routed c = rw (c .before .before .before .before .before .before .before .before .before .before .flatten .ensures .holds) at (c .find-route .ensures)
 
 write-routed-requires : tie.Need-write-routed-requires

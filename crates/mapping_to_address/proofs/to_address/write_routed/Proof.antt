@@ -18,6 +18,7 @@ use Rattle.ortext_write.proofs.Laws.Write.{local-bound}
 use Rattle.mailaddr.specs.Shape.{addressText, quotedLocal}
 use Rattle.table.specs.Table.{Token}
 use Rattle.table.specs.Rows.{between}
+use Rattle.mapping.specs.Answers.{addressRoom}
 use Rattle.mapping.specs.Flat.{fronts}
 use Rattle.mapping.proofs.Laws.Flat.{extended-fronts, length-fronts}
 use Rattle.mapping.proofs.Laws.Route.{length-local, length-row}
@@ -82,7 +83,7 @@ sent : (c : tie.After-put-local) → let start = c .before .before .before .befo
     Wrote (start .args .dst .now) 0 (quotedLocal (localPart start)) (c .put-local .result) (c .put-local .last .0)
 sent c = rw (local-text (c .before .before .before .before)) at (c .put-local .ensures)
 
-sent-end : (c : tie.After-put-local) → (c .put-local .result ≤ 1737) × (length (c .put-local .last .0) ≡ 2560)
+sent-end : (c : tie.After-put-local) → (c .put-local .result ≤ 1737) × (length (c .put-local .last .0) ≡ addressRoom)
 sent-end c =
     let start = c .before .before .before .before .before .before .before .before .before .before in
     (omega (arith, sent c .moved, quoted-fits start), wrote-length (sent c) ∙ start .pre .0)
@@ -106,7 +107,7 @@ fronted : (c : tie.After-put-fronts) →
     Wrote (set (p .last .0) (p .result) 64) (p .result + 1) (fronts (frontLevels (c .before .before .before .before .before .before .before .before .before .before .before .before .before .before))) (c .put-fronts .result) (c .put-fronts .last .0)
 fronted c = rw (c .before .before .before .before .before .before .before .before .before .before .before .before .before .before .pre .1 .1 .0 .holds) at (c .put-fronts .ensures)
 
-fronted-length : (c : tie.After-put-fronts) → length (c .put-fronts .last .0) ≡ 2560
+fronted-length : (c : tie.After-put-fronts) → length (c .put-fronts .last .0) ≡ addressRoom
 fronted-length c =
     let p = c .before .before .before .before .put-local in
     wrote-length (fronted c) ∙ length-set (p .last .0) (p .result) 64 ∙ sent-end (c .before .before .before .before) .1

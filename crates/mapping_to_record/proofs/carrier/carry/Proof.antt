@@ -6,14 +6,12 @@ use native.Mathlib.Omega.{arith}
 use lib.ListN.{take, replicate}
 use lib.Seq.{length-take-le}
 use Rattle.chars.specs.Lists.{bytes}
-use Rattle.chars.specs.Write.{front}
 use Rattle.oraddr.specs.Add.{addDd}
-use Rattle.oraddr.specs.View.{ddValueOf, domainDefinedOf, kindOf, orgUnitOf, valueOf}
 use Rattle.mailaddr.specs.Code.{coded}
 use Rattle.table.specs.Rows.{fieldsAt, rowAt}
-use Rattle.mapping.specs.Answers.{recordLine, recordNumber, toldRecord}
+use Rattle.mapping.specs.Answers.{recordBadLine, recordNumber, toldRecord}
 use Rattle.mapping.specs.Results.{mapped, refusedRecord}
-use Rattle.mapping.specs.Carried.{carrierType}
+use Rattle.mapping.specs.Carried.{carrierType, longestCoded}
 use Rattle.mapping.proofs.Laws.Carrier.{carrying-done, carrying-long, front-is}
 use Rattle.mapping_to_record.proofs.carrier.carry.Statement.{statement}
 use Rattle.mapping_to_record.proofs.carrier.carry.Tie as tie
@@ -24,12 +22,16 @@ slice-aggregate-put-coded c = search needs
 put-coded-requires : tie.Need-put-coded-requires
 put-coded-requires c κs = search needs
 
+refused-requires : tie.Need-refused-requires
+refused-requires c κs = search needs
+
 returns : tie.Need-returns
-unfolding rowAt toldRecord recordNumber recordLine refusedRecord valueOf orgUnitOf domainDefinedOf kindOf ddValueOf front
+unfolding rowAt recordNumber recordBadLine refusedRecord
 returns c =
-    let put = c .before .before in
+    let put = c .before .before .before in
     let a = put .before .before .before .before .args in
-    carrying-long (fieldsAt (a .text .now) (a .gateway .path) (a .gateway .«path_end»)) (a .s .now) (omega (arith, put .put-coded .ensures .0, c .if1 .taken))
+    c .refused .ensures
+    ∙ carrying-long (fieldsAt (a .text .now) (a .gateway .path) (a .gateway .«path_end»)) (a .s .now) (omega (arith, put .put-coded .ensures .0, c .before .if1 .taken))
 
 empty-requires : tie.Need-empty-requires
 empty-requires c κs = search needs
@@ -52,7 +54,7 @@ with-dd-requires : tie.Need-with-dd-requires
 with-dd-requires c κs = search needs
 
 returns-2 : tie.Need-returns-2
-unfolding rowAt bytes toldRecord recordNumber recordLine mapped
+unfolding rowAt bytes toldRecord recordNumber recordBadLine mapped
 returns-2 c =
     let done = c .before in
     let path = done .before .before .before .before in
@@ -60,7 +62,7 @@ returns-2 c =
     let a = put .before .before .before .before .args in
     let n = put .put-coded .result in
     let l = path .before .before .if1 .left in
-    let e : take n (put .put-coded .last .0) ≡ coded (a .s .now) = ap (take n) (put .put-coded .ensures .1) ∙ front-is (coded (a .s .now)) (replicate 128 0) n 128 (put .put-coded .ensures .0) l in
+    let e : take n (put .put-coded .last .0) ≡ coded (a .s .now) = ap (take n) (put .put-coded .ensures .1) ∙ front-is (coded (a .s .now)) (replicate longestCoded 0) n longestCoded (put .put-coded .ensures .0) l in
     carrying-done (fieldsAt (a .text .now) (a .gateway .path) (a .gateway .«path_end»)) (a .s .now) (path .before .empty .result) (path .add-path .result) (done .with-dd .result)
     (omega (arith, put .put-coded .ensures .0, l)) (path .before .empty .ensures) (path .add-path .ensures)
     (done .with-dd .ensures ∙ ap (addDd (path .add-path .result .«record») carrierType) e)
@@ -71,6 +73,7 @@ carry-spec =
     (tie.spec
     slice-aggregate-put-coded
     put-coded-requires
+    refused-requires
     returns
     empty-requires
     add-path-requires

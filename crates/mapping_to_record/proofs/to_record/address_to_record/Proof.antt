@@ -7,7 +7,7 @@ use Rattle.table.specs.Lines as lines
 use Rattle.table.specs.Load.{Loading, loadAnswer}
 use Rattle.table.specs.Rows.{rowAt, rowsAt, tableAt}
 use Rattle.table.specs.declared.load.TableRead.the-variants.{Table}
-use Rattle.mapping.specs.Answers.{recordLine, recordNumber}
+use Rattle.mapping.specs.Answers.{recordBadLine, recordNumber}
 use Rattle.mapping.specs.Results.{malformedRecord}
 use Rattle.mapping.specs.ToRecord.{addressToRecord, toRecordBy}
 use Rattle.mapping.proofs.Laws.Steps.{inward-same}
@@ -58,7 +58,7 @@ returns c =
     ∙ ap (λ (x : lines.TableOutcome). toRecordBy x (a .s .now)) (loaded at .answers)
 
 returns-2 : tie.Need-returns-2
-unfolding addressToRecord toRecordBy malformedRecord recordNumber recordLine loadAnswer
+unfolding addressToRecord toRecordBy malformedRecord recordNumber recordBadLine loadAnswer
 returns-2 c =
     let at = c .before .before in
     let l = at .before .before .before .before in

@@ -3,7 +3,7 @@
 use mathlib.Core.Path.{_≡_, sym, ap, _∙_}
 use borrow.Author.Needs.{needs}
 use Rattle.mailaddr.specs.Answers.{addressAt, noShape, shapeAnswer, shaped, shaping, tooLong}
-use Rattle.mapping.specs.Answers.{inward, recordLine, recordNumber}
+use Rattle.mapping.specs.Answers.{inward, recordBadLine, recordNumber}
 use Rattle.mapping.specs.Results.{refusedRecord}
 use Rattle.mapping.specs.ToRecord.{recordBy, toRecord}
 use Rattle.mailaddr.proofs.Laws.Shaped.{shaped-short, shaped-within}
@@ -50,7 +50,7 @@ returns c =
     c .map-shaped .ensures ∙ ap (recordBy (inward (a .text .now) (a .to-path .now) (a .table)) (a .s .now)) (sym (parts at))
 
 returns-2 : tie.Need-returns-2
-unfolding toRecord recordBy refusedRecord recordNumber recordLine shapeAnswer
+unfolding toRecord recordBy refusedRecord recordNumber recordBadLine shapeAnswer
 returns-2 c =
     let at = c .before .before .before in
     let a = at .before .before .before .before .args in
@@ -58,7 +58,7 @@ returns-2 c =
     c .refused .ensures ∙ ap (recordBy (inward (a .text .now) (a .to-path .now) (a .table)) (a .s .now)) h
 
 returns-3 : tie.Need-returns-3
-unfolding toRecord recordBy refusedRecord recordNumber recordLine shapeAnswer
+unfolding toRecord recordBy refusedRecord recordNumber recordBadLine shapeAnswer
 returns-3 c =
     let at = c .before .before .before in
     let a = at .before .before .before .before .args in

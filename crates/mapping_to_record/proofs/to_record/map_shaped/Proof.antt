@@ -3,7 +3,7 @@
 use mathlib.Core.Path.{sym, ap, _∙_}
 use borrow.Author.Needs.{needs}
 use Rattle.mailaddr.specs.Answers.{addressAt}
-use Rattle.mapping.specs.Answers.{inward, isGood, recordLine, recordNumber, toldRecord}
+use Rattle.mapping.specs.Answers.{inward, isGood, recordBadLine, recordNumber, toldRecord}
 use Rattle.mapping.specs.Results.{mapped}
 use Rattle.mapping.proofs.Laws.Steps.{shaped-carried, shaped-good}
 use Rattle.mapping_to_record.proofs.to_record.map_shaped.Statement.{statement}
@@ -16,7 +16,7 @@ is-good-requires : tie.Need-is-good-requires
 is-good-requires c κs = search needs
 
 returns : tie.Need-returns
-unfolding toldRecord recordNumber recordLine mapped
+unfolding toldRecord recordNumber recordBadLine mapped
 returns c =
     let at = c .before .before .before in
     let a = at .before .before .before .before .args in

@@ -2,8 +2,6 @@
 -- Assumes nothing.
 use mathlib.Core.Path.{_∙_, sym}
 use borrow.Author.Needs.{needs}
-use Rattle.chars.specs.Write.{front}
-use Rattle.oraddr.specs.View.{ddValueOf, domainDefinedOf, kindOf, orgUnitOf, valueOf}
 use Rattle.table.specs.Rows.{between, rowAt}
 use Rattle.mapping.specs.Carried.{isGateway, settledUnder}
 use Rattle.mapping_to_record.proofs.to_record.settle_under.Statement.{statement}
@@ -21,9 +19,12 @@ part-same-text-end c = search needs
 same-text-requires : tie.Need-same-text-requires
 same-text-requires c κs = search needs
 
+empty-requires : tie.Need-empty-requires
+empty-requires c κs = search needs
+
 returns : tie.Need-returns
-unfolding settledUnder isGateway rowAt between valueOf orgUnitOf domainDefinedOf kindOf ddValueOf front
-returns c = rw (sym (c .before .same-text .ensures) ∙ c .if1 .taken)
+unfolding settledUnder isGateway rowAt between
+returns c = rw (sym (c .before .before .same-text .ensures) ∙ c .before .if1 .taken, c .empty .ensures)
 
 settle-requires : tie.Need-settle-requires
 settle-requires c κs = search needs
@@ -40,6 +41,7 @@ settle-under-spec =
     part-same-text-start
     part-same-text-end
     same-text-requires
+    empty-requires
     returns
     settle-requires
     returns-2)

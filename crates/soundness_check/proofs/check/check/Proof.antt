@@ -3,8 +3,7 @@
 use mathlib.Core.Path.{_≡_, refl, sym, subst}
 use mathlib.Core.List.{List}
 use Prim.Native.Nat.{ℕ}
-use Rattle.oraddr.specs.View.{domainDefinedOf, emptyRecord, orgUnitOf, valueOf}
-use Rattle.table.specs.Lines.{TableOutcome, loadedFrom, malformed, wellFormed}
+use Rattle.table.specs.Lines.{Loaded, loadedFrom, malformed, wellFormed}
 use Rattle.table.specs.Load.{Loading, loadAnswer}
 use Rattle.table.specs.Rows.{tableAt}
 use Rattle.table.specs.declared.load.TableRead.the-variants.{Malformed, Table}
@@ -48,7 +47,7 @@ check-loaded-requires c κs =
     let at = c .before .before .before in
     let s : List ℕ = at .before .before .before .before .before .before .before .before .args .table .now in
     let l = at .before .before .before .before .load in
-    (loaded at .kept, loaded-formed s (tableAt s (l .last .1 .0) (l .last .1 .1 .0) (at .t .given .0 .0)) (sym (spelled at)))
+    record { kept = loaded at .kept; formed = loaded-formed s (tableAt s (l .last .1 .0) (l .last .1 .1 .0) (at .t .given .0 .0)) (sym (spelled at)) }
 
 enum-known-line : tie.Need-enum-known-line
 enum-known-line c = search needs
@@ -61,15 +60,18 @@ returns c =
     subst (λ (x : TableOutcome). Demand3 x (toldCheck (c .check-loaded .result))) (spelled at)
     (told-judged (tableAt s (l .last .1 .0) (l .last .1 .1 .0) (at .t .given .0 .0)) (c .check-loaded .result) (c .check-loaded .ensures))
 
+empty-requires : tie.Need-empty-requires
+empty-requires c κs = search needs
+
 returns-2 : tie.Need-returns-2
-unfolding loadAnswer valueOf orgUnitOf domainDefinedOf
+unfolding loadAnswer
 returns-2 c =
-    let s : List ℕ = c .before .before .before .before .before .before .before .before .before .args .table .now in
-    let l = c .before .before .before .before .before .load in
-    let line = c .before .line .given in
+    let s : List ℕ = c .before .before .before .before .before .before .before .before .before .before .args .table .now in
+    let l = c .before .before .before .before .before .before .load in
+    let line = c .before .before .line .given in
     let told : Loading s (loadedFrom s) (Malformed (line .0 .0)) (l .last .1 .0) (l .last .1 .1 .0) = rw (line .1) at (l .ensures) in
     let e : malformed (line .0 .0) ≡ loadedFrom s = told .answers in
-    subst (λ (x : TableOutcome). Demand3 x (record { number = 7; line = line .0 .0; record' = emptyRecord })) e (record { number = refl; line = refl; empty = refl })
+    subst (λ (x : Loaded). Demand3 x (record { number = 7; line = line .0 .0; record' = c .empty .result })) e (record { number = refl; line = refl; empty = c .empty .ensures })
 
 pub check-spec : {M : Type 1} → statement M
 check-spec =
@@ -83,5 +85,6 @@ check-spec =
     slice-aggregate-check-loaded-2
     check-loaded-requires
     enum-known-line
+    empty-requires
     returns
     returns-2)

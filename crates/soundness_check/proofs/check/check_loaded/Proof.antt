@@ -40,7 +40,7 @@ returns-2 c =
     (passed (c .before .before .is-sound .ensures) (c .before .if1 .left))
     (at .judge-rows .ensures) in
     judged-then t (AllSecond t) (Sound t) (c .judge-pairs .result .answer) (c .judge-pairs .result .«record»)
-    (λ second. sound-table t (start .pre .1) (all-checked t first second))
+    (λ second. sound-table t (start .pre .formed) (all-checked t first second))
     (c .judge-pairs .ensures)
 
 pub check-loaded-spec : {M : Type 1} → statement M

@@ -25,7 +25,7 @@ loop-holds : tie.Need-loop-holds Inv-loop μ-loop
 loop-holds c = (omega arith, λ j h. absurd (omega arith))
 
 row-at-requires : tie.Need-row-at-requires Inv-loop μ-loop
-row-at-requires c κs = omega (arith, c .before .before .before .before .before .before .pre .0 .domains .fits)
+row-at-requires c κs = omega (arith, c .before .before .before .before .before .before .pre .kept .domains .fits)
 
 judge-under-requires : tie.Need-judge-under-requires Inv-loop μ-loop
 judge-under-requires c κs =
@@ -33,14 +33,11 @@ judge-under-requires c κs =
     let a = start .args in
     let i = c .before .before .before .loop .i in
     rw (c .row-at .ensures) (
-      start .pre .0,
-      (
-        start .pre .1,
-        (
-          start .pre .0 .domains .each i (omega arith),
-          domain-member (a .text .now) (a .to-path .now) (a .to-domain .now) (a .table) i (omega arith),
-        ),
-      ),
+      start .pre,
+      record {
+        inside = start .pre .kept .domains .each i (omega arith);
+        member = domain-member (a .text .now) (a .to-path .now) (a .to-domain .now) (a .table) i (omega arith);
+      },
     )
 
 is-sound-requires : tie.Need-is-sound-requires Inv-loop μ-loop

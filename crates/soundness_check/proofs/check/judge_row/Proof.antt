@@ -22,7 +22,7 @@ judge-fresh-requires : tie.Need-judge-fresh-requires
 unfolding rowAt
 judge-fresh-requires c κs =
     let pre = c .before .before .before .before .before .pre in
-    (pre .0, (pre .1 .0, (pre .1 .1 .0, (pre .1 .1 .1, (c .before .count-levels .ensures, (omega (arith, c .if1 .taken), omega (arith, c .if1 .taken)))))))
+    (pre .0, (pre .1, (c .before .count-levels .ensures, (omega (arith, c .if1 .taken), omega (arith, c .if1 .taken)))))
 
 returns : tie.Need-returns
 unfolding rowAt
@@ -89,7 +89,7 @@ judge-fresh-requires-2 c κs =
     let three = c .before .before .before .if3 .left in
     let count = c .before .before .before .before .before .before .before .before in
     let pre = count .before .before .before .before .pre in
-    (pre .0, (pre .1 .0, (pre .1 .1 .0, (pre .1 .1 .1, (count .count-levels .ensures, (omega (arith, three), omega (arith, three)))))))
+    (pre .0, (pre .1, (count .count-levels .ensures, (omega (arith, three), omega (arith, three)))))
 
 returns-5 : tie.Need-returns-5
 unfolding rowAt

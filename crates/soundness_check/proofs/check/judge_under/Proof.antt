@@ -27,13 +27,13 @@ abbrev μ-loop : tie.MeasureT-loop
 μ-loop text to-path to-domain table row a b i₀ i = table .«to_path» - i
 
 sub-judge-pair : tie.Need-sub-judge-pair Inv-loop μ-loop
-sub-judge-pair c = c .before .before .before .before .pre .0 .gateway .domain
+sub-judge-pair c = c .before .before .before .before .pre .0 .kept .gateway .domain
 
 part-judge-pair-start : tie.Need-part-judge-pair-start Inv-loop μ-loop
-part-judge-pair-start c = let g = c .before .before .before .before .pre .0 .gateway in omega (arith, g .domain, g .apart, g .path, g .within)
+part-judge-pair-start c = let g = c .before .before .before .before .pre .0 .kept .gateway in omega (arith, g .domain, g .apart, g .path, g .within)
 
 part-judge-pair-end : tie.Need-part-judge-pair-end Inv-loop μ-loop
-part-judge-pair-end c = let g = c .before .before .before .before .pre .0 .gateway in omega (arith, g .domain, g .apart, g .path, g .within)
+part-judge-pair-end c = let g = c .before .before .before .before .pre .0 .kept .gateway in omega (arith, g .domain, g .apart, g .path, g .within)
 
 judge-pair-requires : tie.Need-judge-pair-requires Inv-loop μ-loop
 unfolding tableAt rowAt between
@@ -41,7 +41,7 @@ judge-pair-requires c κs =
     let start = c .before .before .before .before .before in
     let a = start .args in
     let t : Table = tableAt (a .text .now) (a .to-path .now) (a .to-domain .now) (a .table) in
-    (start .pre .0, (start .pre .1 .0, (start .pre .1 .1 .0, (start .pre .1 .1 .1, gateway-domain t (start .pre .1 .0)))))
+    (start .pre .0, (start .pre .1, gateway-domain t (start .pre .0 .formed)))
 
 is-sound-requires : tie.Need-is-sound-requires Inv-loop μ-loop
 is-sound-requires c κs = search needs
@@ -71,14 +71,14 @@ loop-holds c =
     (omega arith, u, λ j h. absurd (omega arith))
 
 row-at-requires : tie.Need-row-at-requires Inv-loop μ-loop
-row-at-requires c κs = omega (arith, c .before .before .before .before .before .before .before .before .before .before .before .pre .0 .paths .fits)
+row-at-requires c κs = omega (arith, c .before .before .before .before .before .before .before .before .before .before .before .pre .0 .kept .paths .fits)
 
 -- the row's places are in the text, and it is one of the table's
 inside : (c : tie.After-row-at Inv-loop μ-loop) → RowInside (c .before .before .before .before .before .before .before .before .before .before .before .before .args .text .now) (c .row-at .result)
 inside c =
     let start = c .before .before .before .before .before .before .before .before .before .before .before .before in
     let i = c .before .before .before .loop .i in
-    subst (RowInside (start .args .text .now)) (sym (c .row-at .ensures)) (start .pre .0 .paths .each i (omega arith))
+    subst (RowInside (start .args .text .now)) (sym (c .row-at .ensures)) (start .pre .0 .kept .paths .each i (omega arith))
 
 mem : (c : tie.After-row-at Inv-loop μ-loop) → let a = c .before .before .before .before .before .before .before .before .before .before .before .before .args in
     List·Memᴰ (rowAt (a .text .now) (c .row-at .result)) (tableAt (a .text .now) (a .to-path .now) (a .to-domain .now) (a .table) .toPath)
@@ -104,16 +104,7 @@ judge-pair-requires-2 c κs =
     let a = start .args in
     let t : Table = tableAt (a .text .now) (a .to-path .now) (a .to-domain .now) (a .table) in (
       start .pre .0,
-      (
-        start .pre .1 .0,
-        (
-          start .pre .1 .1 .0,
-          (
-            start .pre .1 .1 .1,
-            path-domain t (start .pre .1 .0) (rowAt (a .text .now) (c .before .row-at .result)) (mem (c .before)),
-          ),
-        ),
-      ),
+      (start .pre .1, path-domain t (start .pre .0 .formed) (rowAt (a .text .now) (c .before .row-at .result)) (mem (c .before))),
     )
 
 is-sound-requires-2 : tie.Need-is-sound-requires-2 Inv-loop μ-loop
