@@ -6,6 +6,8 @@ use mapping_to_address::to_address::record_to_address;
 use mapping_to_record::to_record::address_to_record;
 use oraddr::bounds::S;
 use oraddr::record::Record;
+use oraddr_canonical::canonical::is_canonical;
+use oraddr_same::same::same_record;
 
 // Room for any address.
 const ROOM: usize = 2560;
@@ -16,7 +18,7 @@ fn is_back(table: &[u8], s: &[u8], rec: Record) -> bool {
     let answer = back.answer;
     let other = back.record;
     match answer {
-        RecordAnswer::Done => other.same(rec),
+        RecordAnswer::Done => same_record(other, rec),
         RecordAnswer::NoShape => false,
         RecordAnswer::TooLong => false,
         RecordAnswer::TooLongCoded => false,
@@ -41,7 +43,7 @@ fn comes_back(table: &[u8], rec: Record) -> bool {
 
 // Whether a record is a canonical one with a surname that does not come back.
 pub(crate) fn is_lost(table: &[u8], rec: Record) -> bool {
-    if !rec.is_canonical() {
+    if !is_canonical(rec) {
         return false;
     }
     if rec.single(S).size() == 0 {

@@ -36,12 +36,13 @@ use Rattle.mapping.proofs.Laws.Whole.{returned-canonical}
 use Rattle.soundness.specs.Check.{CheckResult, Demand3}
 use Rattle.soundness.specs.Sound.{Sound}
 use Rattle.dates.specs.Convert.{converted, dateToUtc, utcToDate}
-use Rattle.dates.specs.Read.{readDate, readUtc}
+use Rattle.date_read.specs.Read.{readDate, readUtc}
 use Rattle.dates.specs.Write.{dateText, utcText}
-use Rattle.dates.specs.declared.date.DateTime.{DateTime}
+use Rattle.date_read.specs.declared.date.DateTime.{DateTime}
 use Rattle.dates.proofs.Laws.Back.{date-back, utc-back}
 use Rattle.dates.proofs.Laws.Convert.{date-date, utc-date}
-use Rattle.restricted.specs.Code.{coded as codedRestricted, decoded as decodedRestricted, isChar}
+use Rattle.chars.specs.Class.{isChar}
+use Rattle.restricted.specs.Code.{coded as codedRestricted, decoded as decodedRestricted}
 use Rattle.restricted.specs.Convert.{restrictText, unrestrictText}
 use Rattle.restricted.proofs.Laws.Atoms.{coded-atoms}
 use Rattle.restricted.proofs.Laws.Back.{decoded-coded, not-coded-decoded}

@@ -29,12 +29,13 @@ use Rattle.mapping.specs.ToRecord.{addressToRecord, recordIn}
 use Rattle.soundness.specs.Check.{CheckResult, Demand3}
 use Rattle.soundness.specs.Sound.{Sound, Witness}
 use Rattle.dates.specs.Convert.{dateToUtc, utcToDate}
-use Rattle.dates.specs.Date.{isDate}
-use Rattle.dates.specs.Read.{readDate, readUtc}
+use Rattle.date_read.specs.Date.{isDate}
+use Rattle.date_read.specs.Read.{readDate, readUtc}
 use Rattle.dates.specs.Write.{dateText, utcText}
-use Rattle.dates.specs.declared.date.DateTime.{DateTime}
+use Rattle.date_read.specs.declared.date.DateTime.{DateTime}
 use Rattle.restricted.specs.Atoms.{isCodedAtoms}
-use Rattle.restricted.specs.Code.{coded as codedRestricted, decoded as decodedRestricted, isChar}
+use Rattle.chars.specs.Class.{isChar}
+use Rattle.restricted.specs.Code.{coded as codedRestricted, decoded as decodedRestricted}
 use Rattle.restricted.specs.Convert.{restrictText, unrestrictText}
 use Rattle.lexical.specs.Nesting.{nestsTooDeep}
 use Rattle.lexical.specs.Tokens.{longestLine}

@@ -14,6 +14,7 @@ use oraddr::add::Added;
 use oraddr::add::Addition;
 use oraddr::add::Attribute;
 use oraddr::record::Record;
+use oraddr_canonical::canonical::is_canonical;
 use ortext_read::read::Answer;
 use ortext_read::read::read_text;
 use ortext_write::write::write_text;
@@ -108,7 +109,7 @@ fn no_record() -> Addition
 fn if_canonical(rec: Record) -> Addition
     ensures { λ r. ⌜ told r ≡ readOutcome (read rec) ⌝ }
 {
-    if !rec.is_canonical() {
+    if !is_canonical(rec) {
         return no_record();
     }
     Addition {
@@ -155,7 +156,7 @@ pub(crate) fn write_canonical(rec: Record, out: &mut [u8]) -> ToAddress
 pub fn write_record(rec: Record, out: &mut [u8]) -> ToAddress
     ensures { λ r. ⌜ toldAddress r (now (out .exit)) ≡ textOfRecord rec (now (out .entry)) ⌝ }
 {
-    if !rec.is_canonical() {
+    if !is_canonical(rec) {
         return refused(AddressAnswer::NotCanonical);
     }
     write_canonical(rec, out)

@@ -6,6 +6,8 @@ use mapping::answers::RecordAnswer;
 use mapping::answers::ToAddress;
 use mapping::answers::ToRecord;
 use oraddr::record::Record;
+use oraddr_canonical::canonical::is_canonical;
+use oraddr_same::same::same_record;
 use ortext_write::write::write_text;
 ghost use mathlib.Core.Path.{_≡_};
 ghost use mathlib.Core.Bool.{true};
@@ -38,7 +40,7 @@ fn print_text(rec: Record)
 }
 
 fn print_record(rec: Record) {
-    if rec.is_canonical() {
+    if is_canonical(rec) {
         print_text(rec);
     } else {
         say(b"\tnot canonical");
@@ -47,7 +49,7 @@ fn print_record(rec: Record) {
 
 // Whether a refusal's record is empty.
 fn print_empty(rec: Record) {
-    if !rec.same(Record::empty()) {
+    if !same_record(rec, Record::empty()) {
         say(b"\tnot empty");
     }
 }

@@ -13,7 +13,6 @@ use crate::records::with_unit;
 use crate::records::with_value;
 use mapping_to_address::to_address::record_to_address;
 use mapping_to_record::to_record::address_to_record;
-use oraddr::record::EMPTY;
 use oraddr::record::Record;
 use ortext_read::read::Answer;
 use ortext_read::read::read_text;
@@ -68,9 +67,9 @@ fn record_of(text: &[u8]) -> Record {
     let answer = reading.answer;
     match answer {
         Answer::Done => reading.record,
-        Answer::Unread => EMPTY,
-        Answer::Refused => EMPTY,
-        Answer::Again => EMPTY,
+        Answer::Unread => Record::empty(),
+        Answer::Refused => Record::empty(),
+        Answer::Again => Record::empty(),
     }
 }
 

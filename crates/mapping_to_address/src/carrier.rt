@@ -21,7 +21,7 @@ ghost use Rattle.chars.specs.Case.{sameText};
 ghost use Rattle.oraddr.specs.View.{ddValueView, ddsView, kindView, view};
 ghost use Rattle.mailaddr.specs.Code.{decoded};
 ghost use Rattle.mailaddr.specs.Shape.{longestAddress};
-ghost use Rattle.table_lookup.specs.Looked.{Ended, tokensOf};
+ghost use Rattle.table_lookup.specs.Looked.{Ended, levelTokens};
 ghost use Rattle.table.specs.Rows.{RowInside, rowAt};
 ghost use Rattle.mapping.specs.Answers.{Writing};
 ghost use Rattle.mapping.specs.Carried.{carrierType, longestCoded};
@@ -78,7 +78,7 @@ fn is_one_carrier(dds: Dds) -> bool
 pub fn is_carrier(text: &[u8], gateway: Row, rec: Record, flat: &[u8], ends: &[usize]) -> bool
     requires { ⌜ RowInside (now text) gateway ⌝ }
     requires { ⌜ Ended (now flat) (now ends) 8 ⌝ }
-    ensures { λ r. ⌜ r ≡ isCarrierAt (rowAt (now (text .entry)) gateway .path) (tokensOf (now (flat .entry)) (now (ends .entry))) (view rec) ⌝ }
+    ensures { λ r. ⌜ r ≡ isCarrierAt (rowAt (now (text .entry)) gateway .path) (levelTokens (now (flat .entry)) (now (ends .entry))) (view rec) ⌝ }
 {
     if !has_levels(text, gateway, flat, ends) {
         return false;

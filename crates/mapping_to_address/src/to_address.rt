@@ -13,6 +13,7 @@ use mapping::answers::Written;
 use mapping::answers::place;
 use mapping::answers::refused;
 use oraddr::record::Record;
+use oraddr_canonical::canonical::is_canonical;
 use ortext_write::write::write_local;
 use table::line::Row;
 use table::load::Loaded;
@@ -32,7 +33,7 @@ ghost use Rattle.chars.specs.Write.{Wrote};
 ghost use Rattle.oraddr.specs.Attributes.{levels};
 ghost use Rattle.oraddr.specs.Canonical.{canonicalRecord};
 ghost use Rattle.oraddr.specs.View.{view};
-ghost use Rattle.table_lookup.specs.Looked.{Ended, tokensOf};
+ghost use Rattle.table_lookup.specs.Looked.{Ended, levelTokens};
 ghost use Rattle.table_lookup.specs.Lookup.{begins};
 ghost use Rattle.table.specs.Rows.{Inside, RowInside, rowAt};
 ghost use Rattle.mapping.specs.Answers.{RoutedBy, RoutedUnder, Writing, addressRoom, outward, routedText, toldAddress};
@@ -48,8 +49,8 @@ pub const ADDRESS_ROOM: usize = 2560;
 fn route_under(text: &[u8], row: Row, flat: &[u8], ends: &[usize]) -> Route
     requires { ⌜ RowInside (now text) row ⌝ }
     requires { ⌜ Ended (now flat) (now ends) 8 ⌝ }
-    requires { ⌜ begins (rowAt (now text) row .path) (tokensOf (now flat) (now ends)) ≡ true ⌝ }
-    ensures { λ r. ⌜ RoutedUnder (now (text .entry)) row (tokensOf (now (flat .entry)) (now (ends .entry))) r ⌝ }
+    requires { ⌜ begins (rowAt (now text) row .path) (levelTokens (now flat) (now ends)) ≡ true ⌝ }
+    ensures { λ r. ⌜ RoutedUnder (now (text .entry)) row (levelTokens (now (flat .entry)) (now (ends .entry))) r ⌝ }
 {
     let own = count_levels(text, row.path, row.path_end);
     let more = count_extension(flat, ends, own);
@@ -61,7 +62,7 @@ fn find_route(text: &[u8], to_domain: &[usize], table: Loaded, flat: &[u8], ends
     requires { ⌜ RowInside (now text) (table .gateway) ⌝ }
     requires { ⌜ Inside (now text) (now «to_domain») (table .«to_domain») ⌝ }
     requires { ⌜ Ended (now flat) (now ends) 8 ⌝ }
-    ensures { λ r. ⌜ RoutedBy (now (text .entry)) (outward (now (text .entry)) (now («to_domain» .entry)) table) (tokensOf (now (flat .entry)) (now (ends .entry))) r ⌝ }
+    ensures { λ r. ⌜ RoutedBy (now (text .entry)) (outward (now (text .entry)) (now («to_domain» .entry)) table) (levelTokens (now (flat .entry)) (now (ends .entry))) r ⌝ }
 {
     match find_path(text, to_domain, table.to_domain, flat, ends) {
         Found::At(i) => route_under(text, row_at(to_domain, i), flat, ends),
@@ -163,7 +164,7 @@ pub fn map_record(
     requires { ⌜ Inside (now text) (now «to_domain») (table .«to_domain») ⌝ }
     ensures { λ r. ⌜ toldAddress r (now (out .exit)) ≡ toAddress (outward (now (text .entry)) (now («to_domain» .entry)) table) rec (now (out .entry)) ⌝ }
 {
-    if !rec.is_canonical() {
+    if !is_canonical(rec) {
         return refused(AddressAnswer::NotCanonical);
     }
     let mut address = [0u8; ADDRESS_ROOM];

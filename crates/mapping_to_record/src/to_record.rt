@@ -12,6 +12,7 @@ use mailaddr::shape::unquote_local;
 use mapping::answers::RecordAnswer;
 use mapping::answers::ToRecord;
 use oraddr::record::Record;
+use oraddr_canonical::canonical::is_canonical;
 use ortext_read::read::Answer;
 use ortext_read::read::Reading;
 use ortext_read::read::read_local;
@@ -114,7 +115,7 @@ fn is_good(done: Reading) -> bool
     let answer = done.answer;
     let rec = done.record;
     match answer {
-        Answer::Done => rec.is_canonical(),
+        Answer::Done => is_canonical(rec),
         Answer::Unread => false,
         Answer::Refused => false,
         Answer::Again => false,

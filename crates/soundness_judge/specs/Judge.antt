@@ -11,7 +11,7 @@ use Rattle.table.specs.Table.{Row, Table}
 use Rattle.table.specs.declared.line as line
 use Rattle.table.specs.declared.load as load
 use Rattle.soundness.specs.Check.{Judged}
-use Rattle.soundness.specs.Folded.{domainRow, tokensOf}
+use Rattle.soundness.specs.Folded.{domainRow, tokenTable}
 use Rattle.soundness.specs.Tokens.{Back, Tried, pad}
 use Rattle.soundness.specs.declared.answers.Checked.{Checked}
 
@@ -34,7 +34,7 @@ JudgesRow P s ds rs t row c = Judges (λ u. P u (rowAt s row)) s ds rs t c
 
 -- the levels of a row's path come back; and with a fresh token behind them, where it omits PRMD or does not
 abbrev pub PlainBack : Table → Row → Type 0
-PlainBack t r = Back (tokensOf t) (pad (domainRow r .key))
+PlainBack t r = Back (tokenTable t) (pad (domainRow r .key))
 
 abbrev pub FreshBack : Bool → Table → Row → Type 0
-FreshBack omits t r = Tried (tokensOf t) (domainRow r) omits
+FreshBack omits t r = Tried (tokenTable t) (domainRow r) omits

@@ -9,6 +9,7 @@ use mapping_to_address::to_address::ADDRESS_ROOM;
 use mapping_to_address::to_address::map_record;
 use mapping_to_record::to_record::map_address;
 use oraddr::record::Record;
+use oraddr_same::same::same_record;
 use soundness::answers::CheckAnswer;
 use soundness::answers::Checked;
 use soundness_fresh::fresh::free_number;
@@ -51,7 +52,7 @@ fn is_back(
     let answer = back.answer;
     let other = back.record;
     match answer {
-        RecordAnswer::Done => other.same(rec),
+        RecordAnswer::Done => same_record(other, rec),
         RecordAnswer::NoShape => false,
         RecordAnswer::TooLong => false,
         RecordAnswer::TooLongCoded => false,

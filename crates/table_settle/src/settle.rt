@@ -4,7 +4,6 @@ use mailaddr::domain::part_start;
 use oraddr::add::Added;
 use oraddr::add::Addition;
 use oraddr::bounds::OWN_LEVELS;
-use oraddr::record::EMPTY;
 use oraddr::record::Record;
 use table::line::Row;
 use table::rows::row_at;
@@ -159,7 +158,7 @@ fn without_record(answer: Settled) -> Settlement
 {
     Settlement {
         answer,
-        record: EMPTY,
+        record: Record::empty(),
     }
 }
 

@@ -1,6 +1,7 @@
 // What the program prints of a reading and of a name.
 use cases::print::say;
 use oraddr::record::Record;
+use oraddr_canonical::canonical::is_canonical;
 use ortext_name::name::NamePlaces;
 use ortext_name::name::NameRead;
 use ortext_name::name::put_initials;
@@ -50,7 +51,7 @@ fn print_locals(rec: Record)
 }
 
 fn print_record(rec: Record) {
-    if !rec.is_canonical() {
+    if !is_canonical(rec) {
         say(b"0");
         return;
     }

@@ -1,6 +1,5 @@
 // Records with levels settled, as a domain settles them.
 use oraddr::add::Addition;
-use oraddr::record::EMPTY;
 use oraddr::record::Record;
 ghost use mathlib.Core.Path.{_≡_};
 ghost use Prim.Native.Nat.{_≤_};
@@ -66,7 +65,7 @@ pub(crate) fn base(digit: u8) -> Record
     ensures { λ r. ⌜ r .dds .count ≡ 0 ⌝ }
 {
     let n = filled(digit);
-    let mut rec = EMPTY;
+    let mut rec = Record::empty();
     let mut k = 0;
     while k < n {
         rec = with_level(rec, k);

@@ -139,7 +139,7 @@ module _ (ls : List Token) (flat new ends : List ℕ) (k n next : ℕ) (room : k
       }
 
 pub filled-all : (ls : List Token) (n : ℕ) (flat ends : List ℕ) → length ls ≡ 8 → 8 < length ends → n ≤ length flat → n ≤ levelsRoom → Filled ls 8 n flat ends → Flat ls flat ends
-unfolding tokensOf
+unfolding levelTokens
 filled-all ls n flat ends e room within m f =
     record {
       ended = record { room = room; ordered = λ k l. f .each k l .ordered; inside = λ k l. omega (arith, f .each k l .low) };

@@ -125,7 +125,7 @@ module _ (t : Table) (a : Attributes) where
 
 -- the test of the code is the definition's
 pub carrier-test : (s rs flat ends : List ℕ) (t : load.Loaded.Loaded) (a : Attributes) → Flat (levels a) flat ends
-    → isCarrierAt (rowAt s (t .gateway) .path) (tokensOf flat ends) a ≡ isCarrier (outward s rs t) a
+    → isCarrierAt (rowAt s (t .gateway) .path) (levelTokens flat ends) a ≡ isCarrier (outward s rs t) a
 unfolding isCarrier
 carrier-test s rs flat ends t a f =
     ap (λ (ls : List Token). isCarrierAt (rowAt s (t .gateway) .path) ls a) (f .holds)
@@ -175,4 +175,4 @@ module _ (s ds rs : List ℕ) (r : Record) (old : List ℕ) where
 
   pub answer-malformed : (n : ℕ) → Loading s (loadedFrom s) (TableMalformed n) ds rs → toldAddress (record { answer = Malformed n; size = 0 }) old ≡ recordToAddress s r old
   unfolding toldAddress addressNumber addressBadLine recordToAddress toAddressBy malformedAddress loadAnswer
-  answer-malformed n h = ap (λ (l : Loaded). toAddressBy l r old) (h .answers)
+  answer-malformed n h = ap (λ (l : TableOutcome). toAddressBy l r old) (h .answers)

@@ -9,7 +9,7 @@ use lib.ListN.{drop}
 use Rattle.chars.proofs.Laws.Lists.{failed, passed}
 use Rattle.mailaddr.specs.Answers.{addressAt, localAt}
 use Rattle.mailaddr.specs.Domain.{isDomain}
-use Rattle.mailaddr.proofs.Laws.Shape.{rest-of}
+use Rattle.chars.proofs.Laws.Seq.{rest-of}
 use Rattle.table_settle.specs.Settle.{settlementAnswer}
 use Rattle.table_settle.specs.declared.settle.Settled.the-variants.{Levels, NoRow, PastBound, PastUnits}
 use Rattle.table_settle.proofs.Laws.Settle.{answer-is}

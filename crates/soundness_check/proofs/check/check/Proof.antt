@@ -3,7 +3,7 @@
 use mathlib.Core.Path.{_≡_, refl, sym, subst}
 use mathlib.Core.List.{List}
 use Prim.Native.Nat.{ℕ}
-use Rattle.table.specs.Lines.{Loaded, loadedFrom, malformed, wellFormed}
+use Rattle.table.specs.Lines.{TableOutcome, loadedFrom, malformed, wellFormed}
 use Rattle.table.specs.Load.{Loading, loadAnswer}
 use Rattle.table.specs.Rows.{tableAt}
 use Rattle.table.specs.declared.load.TableRead.the-variants.{Malformed, Table}
@@ -71,7 +71,7 @@ returns-2 c =
     let line = c .before .before .line .given in
     let told : Loading s (loadedFrom s) (Malformed (line .0 .0)) (l .last .1 .0) (l .last .1 .1 .0) = rw (line .1) at (l .ensures) in
     let e : malformed (line .0 .0) ≡ loadedFrom s = told .answers in
-    subst (λ (x : Loaded). Demand3 x (record { number = 7; line = line .0 .0; record' = c .empty .result })) e (record { number = refl; line = refl; empty = c .empty .ensures })
+    subst (λ (x : TableOutcome). Demand3 x (record { number = 7; line = line .0 .0; record' = c .empty .result })) e (record { number = refl; line = refl; empty = c .empty .ensures })
 
 pub check-spec : {M : Type 1} → statement M
 check-spec =

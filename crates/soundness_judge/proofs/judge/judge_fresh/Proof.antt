@@ -76,7 +76,7 @@ returns c =
     let a = start .args in
     let t : Table = tableAt (a .text .now) (a .to-path .now) (a .to-domain .now) (a .table) in
     let r : Row = rowAt (a .text .now) (a .row) in
-    judged-then t (comesBack t (made .result) ≡ true) (Tried (tokensOf t) (domainRow r) (eqb (a .k) 3)) (c .judge .result .answer) (c .judge .result .«record»)
+    judged-then t (comesBack t (made .result) ≡ true) (Tried (tokenTable t) (domainRow r) (eqb (a .k) 3)) (c .judge .result .answer) (c .judge .result .«record»)
     (two-tried t (start .pre .0 .formed) r (start .pre .1 .0 .member) (number .result) (label .result) (label .ensures) (a .k) (start .pre .1 .1 .0)
     (made .result) (c .before .before .before .if1 .taken) (made .ensures) (number .ensures))
     (c .judge .ensures)
@@ -125,7 +125,7 @@ returns-2 c =
     let a = start .args in
     let t : Table = tableAt (a .text .now) (a .to-path .now) (a .to-domain .now) (a .table) in
     let r : Row = rowAt (a .text .now) (a .row) in
-    judged-then t (comesBack t (made .result) ≡ true) (Tried (tokensOf t) (domainRow r) (eqb (a .k) 3)) (c .judge2 .result .answer) (c .judge2 .result .«record»)
+    judged-then t (comesBack t (made .result) ≡ true) (Tried (tokenTable t) (domainRow r) (eqb (a .k) 3)) (c .judge2 .result .answer) (c .judge2 .result .«record»)
     (bare-tried t (start .pre .0 .formed) r (start .pre .1 .0 .member) (number .result) (label .result) (label .ensures) (a .k) (start .pre .1 .1 .0)
     (made .result) (three (c .before .before)) (made .ensures) (number .ensures))
     (c .judge2 .ensures)

@@ -33,7 +33,7 @@ returns c =
     let a = start .args in
     let t : Table = tableAt (a .text .now) (a .to-path .now) (a .to-domain .now) (a .table) in
     let r : Row = rowAt (a .text .now) (a .row) in
-    judged-then t (comesBack t (made .result) ≡ true) (Back (tokensOf t) (pad (domainRow r .key))) (c .judge .result .answer) (c .judge .result .«record»)
+    judged-then t (comesBack t (made .result) ≡ true) (Back (tokenTable t) (pad (domainRow r .key))) (c .judge .result .answer) (c .judge .result .«record»)
     (plain-tried t (start .pre .0 .formed) r (start .pre .1 .member) (made .result) (made .ensures))
     (c .judge .ensures)
 
