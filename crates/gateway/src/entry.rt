@@ -1,11 +1,12 @@
-// Every entry point of the library, each with its promise. Each takes any bytes. Those for record text by itself, dates, the restricted encoding
-// and mailboxes stand with their contracts in the crates that the lines below name.
+// Every entry point of the library, each with its promise. Each takes any bytes. Those for record text by itself, the router, dates,
+// the restricted encoding and mailboxes stand with their contracts in the crates that the lines below name.
 pub use gateway_dates::date_to_822;
 pub use gateway_dates::date_to_x400;
 pub use gateway_mailbox::mailbox;
 pub use gateway_mailbox::phrase_place;
 pub use gateway_restricted::restrict;
 pub use gateway_restricted::unrestrict;
+pub use gateway_route::route;
 pub use gateway_text::read::read_record;
 pub use gateway_text::write::write_record;
 use mapping::answers::ToAddress;
@@ -15,9 +16,7 @@ use mapping_to_record::to_record::address_to_record;
 use oraddr::add::Addition;
 use oraddr::add::Attribute;
 use oraddr::record::Record;
-use router::run::Routed;
 use soundness::answers::Checked;
-use table::rows::ROWS_SIZE;
 ghost use mathlib.Core.Path.{_≡_};
 ghost use Rattle.oraddr.specs.Add.{addDd, addSingle, addUnit, placeOf, told};
 ghost use Rattle.mailaddr.specs.Tail.{sharedTail};
@@ -26,7 +25,6 @@ ghost use Rattle.mapping.specs.Answers.{toldAddress, toldRecord};
 ghost use Rattle.mapping.specs.ToAddress.{recordToAddress};
 ghost use Rattle.mapping.specs.ToRecord.{addressToRecord};
 ghost use Rattle.soundness.specs.Check.{Demand3, toldCheck};
-ghost use Rattle.router.specs.Run.{Routing};
 
 // An address to a record, under a table text: 0, 1, 2, 3 or 7.
 pub fn to_record(table: &[u8], address: &[u8]) -> ToRecord
@@ -75,16 +73,4 @@ pub fn shared_tail<'a, 'b>(first: &'a [u8], second: &'b [u8]) -> &'a [u8]
     ensures { λ r. ⌜ now r ≡ sharedTail (now (first .entry)) (now (second .entry)) ⌝ }
 {
     mailaddr::tail::shared_tail(first, second)
-}
-
-// Answers the lines of `input`, the next part of a run, in `out`, under a table text, which is loaded once for them all. `over` is false for
-// the first part and then what the last call said; `last` says that no more will come. What was not taken is to be lent again, with more
-// behind it.
-pub fn route(table: &[u8], over: bool, input: &[u8], last: bool, out: &mut [u8]) -> Routed
-    ensures { λ r. ⌜ Routing (loadedFrom (now (table .entry))) over (now (input .entry)) last (now (out .entry)) r (now (out .exit)) ⌝ }
-{
-    let mut to_path = [0usize; ROWS_SIZE];
-    let mut to_domain = [0usize; ROWS_SIZE];
-    let read = router::run::open(table, &mut to_path, &mut to_domain);
-    router::run::route(table, &to_path, &to_domain, read, over, input, last, out)
 }

@@ -1,6 +1,5 @@
 // The functions for C and for Rust without Rattle. Each slice is a pointer and a length; docs/include/gateway.h says what they do.
 use crate::entry::check;
-use crate::entry::route;
 use crate::entry::shared_tail;
 use crate::entry::to_address;
 use crate::entry::to_record;
@@ -12,6 +11,7 @@ use gateway_pack::NUMBER_LIMIT;
 use gateway_pack::pack;
 use gateway_restricted::packed_restrict;
 use gateway_restricted::packed_unrestrict;
+use gateway_route::route;
 use gateway_text::read::read_record;
 use gateway_text::write::show;
 use gateway_text::write::write_canonical;

@@ -1,11 +1,11 @@
--- `gateway::entry::route` meets its contract.
+-- `gateway_route::route` meets its contract.
 -- Assumes nothing.
 use mathlib.Core.Path.{subst}
 use Rattle.table.specs.Lines.{Loaded}
 use Rattle.router.specs.Run.{Routing}
 use borrow.Author.Needs.{needs}
-use Rattle.gateway.proofs.entry.route.Statement.{statement}
-use Rattle.gateway.proofs.entry.route.Tie as tie
+use Rattle.gateway_route.proofs.route.Statement.{statement}
+use Rattle.gateway_route.proofs.route.Tie as tie
 
 slice-aggregate-open : tie.Need-slice-aggregate-open
 slice-aggregate-open c = search needs
