@@ -1,4 +1,2 @@
 pub mod Bounds
 pub mod Exports
-pub mod Mailboxes
-pub mod Texts

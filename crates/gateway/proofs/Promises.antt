@@ -5,14 +5,13 @@ use mathlib.Core.Logic.{inl, inr}
 use mathlib.Core.Bool.{true, false, cond}
 use mathlib.Core.List.{List, [], _∷_}
 use mathlib.Core.Option.{Option, none, some}
-use Prim.Native.Nat.{ℕ, _/_, _%_, _≤_, _<_}
-use native.Mathlib.Nat.{add-mul-mod-self-left, mod-eq-of-lt}
+use Prim.Native.Nat.{ℕ, _≤_, _<_}
 use native.Mathlib.Omega.{arith}
 use borrow.Author.Tests.{eqb-true, le-ltb, lt-ltb, ltb-false}
 use lib.Dec.{eqb, ltb}
 use lib.ListN.{length}
 use Rattle.chars.specs.Lists.{all, member}
-use Rattle.chars.specs.Write.{TextResult, front, placedText, refusedText}
+use Rattle.chars.specs.Write.{front, placedText, refusedText}
 use Rattle.chars.proofs.Laws.Lists.{by-test, true-not-false}
 use Rattle.chars.proofs.Laws.Write.{drop-front, length-front}
 use Rattle.oraddr.specs.Canonical.{canonicalRecord}
@@ -57,10 +56,11 @@ use Rattle.mailbox.proofs.Laws.Again.{unnamed-text, written-again}
 use Rattle.mailbox.proofs.Laws.Bare.{written-meaning, written-shape}
 use Rattle.router.proofs.Laws.Calls.{call-moves, calls-whole}
 use Rattle.router_line.proofs.Laws.Line.{loaded-rules}
-use Rattle.gateway.specs.Exports.{addressToText, lengthLimit, packedText, readingToAddress, textResult, textToAddress, textToAddressBy}
-use Rattle.gateway.proofs.Laws.Mailboxes.{place-inside, result-inside}
-use Rattle.gateway.specs.Promises.{Accepted, AddressRules, Dates, Demand1, Demand2, Demand3Exactly, EndsBuffer, EndsRecord, EndsText, Judgement, MailboxRules, Mailboxes, Packing, Promises, RecordRules, Restricted, Router}
-use Rattle.gateway.specs.Texts.{readOutcome, recordOfText, textOfRecord}
+use Rattle.gateway_mailbox.proofs.Laws.Mailboxes.{place-inside, result-inside}
+use Rattle.gateway_pack.proofs.Laws.Packed.{number-back, size-back}
+use Rattle.gateway_text.specs.Texts.{readOutcome, recordOfText, textOfRecord}
+use Rattle.gateway.specs.Exports.{addressToText, readingToAddress, textResult, textToAddress, textToAddressBy}
+use Rattle.gateway.specs.Promises.{Accepted, AddressRules, Dates, Demand1, Demand2, Demand3Exactly, EndsBuffer, EndsRecord, Judgement, MailboxRules, Mailboxes, Packing, Promises, RecordRules, Restricted, Router, withoutLine}
 use Rattle.gateway.proofs.Laws.Exports.{not-canonical}
 
 -- ---- demand 1
@@ -82,38 +82,42 @@ record-ends (wellFormed t) s = by-shape t s (shaping s)
 
 -- of a text in a buffer
 module _ (numbers old : List ℕ) where
-  left : (n : ℕ) → member n numbers ≡ true → EndsBuffer numbers old (refusedAddress n old)
-  unfolding refusedAddress
+  left : (n : ℕ) → member n numbers ≡ true → EndsBuffer numbers old (refusedText n old)
+  unfolding refusedText
   left n h = inr (record { number = h; size = refl; buffer = refl })
 
-  left-malformed : (n : ℕ) → member 7 numbers ≡ true → EndsBuffer numbers old (malformedAddress n old)
-  unfolding malformedAddress
-  left-malformed n h = inr (record { number = h; size = refl; buffer = refl })
-
-  placed-ends : (s : List ℕ) → member 6 numbers ≡ true → EndsBuffer numbers old (placed s old)
-  unfolding placed
-  placed-ends s h =
+  text-placed : (s : List ℕ) → member 6 numbers ≡ true → EndsBuffer numbers old (placedText s old)
+  unfolding placedText
+  text-placed s h =
       by-test (ltb (length old) (length s))
       (λ e. rw e (left 6 h))
       (λ e.
       let f : length s ≤ length old = ltb-false (length old) (length s) e in
       rw e (inl (record { done = refl; fits = f; same = length-front s old f; rest = drop-front s old })))
 
+-- record to address and record text say the same of their texts
+placed-text : (s old : List ℕ) → placedText s old ≡ withoutLine (placed s old)
+unfolding placedText placed refusedText refusedAddress
+placed-text s old = by-test (ltb (length old) (length s)) (λ e. rw e) (λ e. rw e)
+
+placed-ends : (numbers old s : List ℕ) → member 6 numbers ≡ true → EndsBuffer numbers old (withoutLine (placed s old))
+placed-ends numbers old s h = subst (EndsBuffer numbers old) (placed-text s old) (text-placed numbers old s h)
+
 -- of record to address
-table-ends : (t : Table) (r : Record) (old : List ℕ) → EndsBuffer (4 ∷ 5 ∷ 6 ∷ 7 ∷ []) old (toAddress t r old)
-unfolding toAddress member
+table-ends : (t : Table) (r : Record) (old : List ℕ) → EndsBuffer (4 ∷ 5 ∷ 6 ∷ 7 ∷ []) old (withoutLine (toAddress t r old))
+unfolding toAddress member refusedAddress refusedText
 table-ends t r old =
     by-test (canonicalRecord r)
     (λ c. rw c (by-text (addressOf t (view r))))
     (λ c. rw c (left (4 ∷ 5 ∷ 6 ∷ 7 ∷ []) old 4 refl))
   where
-    by-text : (o : Option (List ℕ)) → EndsBuffer (4 ∷ 5 ∷ 6 ∷ 7 ∷ []) old (placedIn old o)
+    by-text : (o : Option (List ℕ)) → EndsBuffer (4 ∷ 5 ∷ 6 ∷ 7 ∷ []) old (withoutLine (placedIn old o))
     by-text none = left (4 ∷ 5 ∷ 6 ∷ 7 ∷ []) old 5 refl
     by-text (some s) = placed-ends (4 ∷ 5 ∷ 6 ∷ 7 ∷ []) old s refl
 
-address-ends : (l : TableOutcome) (r : Record) (old : List ℕ) → EndsBuffer (4 ∷ 5 ∷ 6 ∷ 7 ∷ []) old (toAddressBy l r old)
-unfolding toAddressBy member
-address-ends (malformed n) r old = left-malformed (4 ∷ 5 ∷ 6 ∷ 7 ∷ []) old n refl
+address-ends : (l : Loaded) (r : Record) (old : List ℕ) → EndsBuffer (4 ∷ 5 ∷ 6 ∷ 7 ∷ []) old (withoutLine (toAddressBy l r old))
+unfolding toAddressBy member malformedAddress refusedText
+address-ends (malformed n) r old = left (4 ∷ 5 ∷ 6 ∷ 7 ∷ []) old 7 refl
 address-ends (wellFormed t) r old = table-ends t r old
 
 -- of record text
@@ -132,7 +136,7 @@ one-more n h =
     (λ e. let z : n ≡ 6 = eqb-true n 6 e in rw z)
     (λ e. rw e h)
 
-text-ends : (o : RecordResult) (old : List ℕ) → EndsRecord (1 ∷ 2 ∷ 3 ∷ 7 ∷ []) (o .number) (o .record') → EndsBuffer (1 ∷ 2 ∷ 3 ∷ 6 ∷ 7 ∷ []) old (textResult o old)
+text-ends : (o : RecordResult) (old : List ℕ) → EndsRecord (1 ∷ 2 ∷ 3 ∷ 7 ∷ []) (o .number) (o .record') → EndsBuffer (1 ∷ 2 ∷ 3 ∷ 6 ∷ 7 ∷ []) old (withoutLine (textResult o old))
 unfolding textResult member
 text-ends o old (inl z) = rw z (placed-ends (1 ∷ 2 ∷ 3 ∷ 6 ∷ 7 ∷ []) old (recordText keys (view (o .record'))) refl)
 text-ends o old (inr h) =
@@ -140,20 +144,20 @@ text-ends o old (inr h) =
     (λ e. rw e (placed-ends (1 ∷ 2 ∷ 3 ∷ 6 ∷ 7 ∷ []) old (recordText keys (view (o .record'))) refl))
     (λ e. rw e (inr (record { number = one-more (o .number) (h .0); size = refl; buffer = refl })))
 
-reading-ends : (t : Table) (x : apply.Reading) (old : List ℕ) → EndsBuffer (4 ∷ 5 ∷ 6 ∷ 7 ∷ []) old (readingToAddress t x old)
-unfolding readingToAddress member
+reading-ends : (t : Table) (x : apply.Reading) (old : List ℕ) → EndsBuffer (4 ∷ 5 ∷ 6 ∷ 7 ∷ []) old (withoutLine (readingToAddress t x old))
+unfolding readingToAddress member refusedAddress refusedText
 reading-ends t unread old = left (4 ∷ 5 ∷ 6 ∷ 7 ∷ []) old 4 refl
 reading-ends t refused old = left (4 ∷ 5 ∷ 6 ∷ 7 ∷ []) old 4 refl
 reading-ends t again old = left (4 ∷ 5 ∷ 6 ∷ 7 ∷ []) old 4 refl
 reading-ends t (read r) old = table-ends t r old
 
-sent-ends : (l : TableOutcome) (s old : List ℕ) → EndsBuffer (4 ∷ 5 ∷ 6 ∷ 7 ∷ []) old (textToAddressBy l s old)
-unfolding textToAddressBy member
-sent-ends (malformed n) s old = left-malformed (4 ∷ 5 ∷ 6 ∷ 7 ∷ []) old n refl
+sent-ends : (l : Loaded) (s old : List ℕ) → EndsBuffer (4 ∷ 5 ∷ 6 ∷ 7 ∷ []) old (withoutLine (textToAddressBy l s old))
+unfolding textToAddressBy member malformedAddress refusedText
+sent-ends (malformed n) s old = left (4 ∷ 5 ∷ 6 ∷ 7 ∷ []) old 7 refl
 sent-ends (wellFormed t) s old = reading-ends t (readText keys 0 emptyRecord s) old
 
-written-ends : (r : Record) (old : List ℕ) → EndsBuffer (4 ∷ 6 ∷ []) old (textOfRecord r old)
-unfolding textOfRecord member
+written-ends : (r : Record) (old : List ℕ) → EndsBuffer (4 ∷ 6 ∷ []) old (withoutLine (textOfRecord r old))
+unfolding textOfRecord member refusedAddress refusedText
 written-ends r old =
     by-test (canonicalRecord r)
     (λ c. rw c (placed-ends (4 ∷ 6 ∷ []) old (recordText keys (view r)) refl))
@@ -365,35 +369,14 @@ router =
 
 -- ---- a text in a lent buffer
 
-module _ (numbers old : List ℕ) where
-  text-left : (n : ℕ) → member n numbers ≡ true → EndsText numbers old (refusedText n old)
-  unfolding refusedText
-  text-left n h = inr (record { number = h; size = refl; buffer = refl })
-
-  text-placed : (s : List ℕ) → member 6 numbers ≡ true → EndsText numbers old (placedText s old)
-  unfolding placedText
-  text-placed s h =
-      by-test (ltb (length old) (length s))
-      (λ e. rw e (text-left 6 h))
-      (λ e.
-      let f : length s ≤ length old = ltb-false (length old) (length s) e in
-      rw e (inl (record { done = refl; fits = f; same = length-front s old f; rest = drop-front s old })))
-
--- both are read off the one value
-number-back : (o : TextResult) → o .number < 16 → packedText o % 16 ≡ o .number
-number-back o h = add-mul-mod-self-left (o .number) 16 (o .size % lengthLimit) ∙ mod-eq-of-lt h
-
-size-back : (o : TextResult) → o .number < 16 → o .size < lengthLimit → packedText o / 16 ≡ o .size
-size-back o h k = omega (arith, mod-eq-of-lt k)
-
 pub packing : Packing
 packing = record { number = number-back; size = size-back }
 
 -- ---- dates
 
-date-ends : (text : DateTime → List ℕ) (o : Option DateTime) (old : List ℕ) → EndsText (10 ∷ 6 ∷ []) old (converted text o old)
+date-ends : (text : DateTime → List ℕ) (o : Option DateTime) (old : List ℕ) → EndsBuffer (10 ∷ 6 ∷ []) old (converted text o old)
 unfolding converted member
-date-ends text none old = text-left (10 ∷ 6 ∷ []) old 10 refl
+date-ends text none old = left (10 ∷ 6 ∷ []) old 10 refl
 date-ends text (some d) old = text-placed (10 ∷ 6 ∷ []) old (text d) refl
 
 pub dates : Dates
@@ -410,12 +393,12 @@ dates =
 
 -- ---- the restricted encoding
 
-chars-ends : (s t old : List ℕ) → EndsText (1 ∷ 6 ∷ []) old (cond (all isChar s) (placedText t old) (refusedText 1 old))
+chars-ends : (s t old : List ℕ) → EndsBuffer (1 ∷ 6 ∷ []) old (cond (all isChar s) (placedText t old) (refusedText 1 old))
 unfolding member
 chars-ends s t old =
     by-test (all isChar s)
     (λ e. rw e (text-placed (1 ∷ 6 ∷ []) old t refl))
-    (λ e. rw e (text-left (1 ∷ 6 ∷ []) old 1 refl))
+    (λ e. rw e (left (1 ∷ 6 ∷ []) old 1 refl))
 
 placed-whole : (s new : List ℕ) → length s ≤ length new → placedText s new ≡ record { number = 0; size = length s; buffer = front s new }
 unfolding placedText
@@ -435,17 +418,17 @@ restricted =
 
 -- ---- mailboxes
 
-read-ends : (o : Option Bare) (old : List ℕ) → EndsText (2 ∷ 9 ∷ 1 ∷ 6 ∷ []) old (textBy (readingOf o) old)
+read-ends : (o : Option Bare) (old : List ℕ) → EndsBuffer (2 ∷ 9 ∷ 1 ∷ 6 ∷ []) old (textBy (readingOf o) old)
 unfolding textBy readingOf member
-read-ends none old = text-left (2 ∷ 9 ∷ 1 ∷ 6 ∷ []) old 1 refl
+read-ends none old = left (2 ∷ 9 ∷ 1 ∷ 6 ∷ []) old 1 refl
 read-ends (some b) old = text-placed (2 ∷ 9 ∷ 1 ∷ 6 ∷ []) old (bareText b) refl
 
-mailbox-ends : (s old : List ℕ) → EndsText (2 ∷ 9 ∷ 1 ∷ 6 ∷ []) old (readMailbox s old .text)
+mailbox-ends : (s old : List ℕ) → EndsBuffer (2 ∷ 9 ∷ 1 ∷ 6 ∷ []) old (readMailbox s old .text)
 unfolding readMailbox mailboxBy reading textBy member
 mailbox-ends s old =
     by-test (ltb longestLine (length s))
-    (λ e. rw e (text-left (2 ∷ 9 ∷ 1 ∷ 6 ∷ []) old 2 refl))
-    (λ e. by-test (nestsTooDeep s) (λ f. rw (e, f) (text-left (2 ∷ 9 ∷ 1 ∷ 6 ∷ []) old 9 refl)) (λ f. rw (e, f) (read-ends (bareIn s) old)))
+    (λ e. rw e (left (2 ∷ 9 ∷ 1 ∷ 6 ∷ []) old 2 refl))
+    (λ e. by-test (nestsTooDeep s) (λ f. rw (e, f) (left (2 ∷ 9 ∷ 1 ∷ 6 ∷ []) old 9 refl)) (λ f. rw (e, f) (read-ends (bareIn s) old)))
 
 mailbox-place : (s old : List ℕ) → readMailbox s old .text .number ≡ 0 → readMailbox s old .phrase ≡ phrasePlace s
 unfolding readMailbox mailboxBy placeIn phrasePlace

@@ -1,13 +1,12 @@
--- What the functions for C return: a number and a count in one value, and the text in the lent buffer.
+-- What the functions for C of the two mappings and of the check return: a number and a count in one value, and the text in the lent buffer.
 -- Assumes nothing.
 use mathlib.Core.Path.{_≡_}
 use mathlib.Core.Logic.{_⊎_}
 use mathlib.Core.Bool.{cond}
 use mathlib.Core.List.{List}
-use Prim.Native.Nat.{ℕ, _+_, _*_, _%_}
-use lib.Dec.{eqb, ltb}
+use Prim.Native.Nat.{ℕ, _+_, _*_}
+use lib.Dec.{eqb}
 use lib.ListN.{length}
-use Rattle.chars.specs.Write.{TextResult, front}
 use Rattle.oraddr.specs.View.{emptyRecord, view}
 use Rattle.oraddr.specs.declared.record.Record.{Record}
 use Rattle.ortext_read.specs.Apply.{Reading, again, read, readText, refused, unread}
@@ -19,10 +18,12 @@ use Rattle.mapping.specs.Results.{AddressResult, RecordResult, malformedAddress
 use Rattle.mapping.specs.ToAddress.{toAddress}
 use Rattle.mapping.specs.ToRecord.{addressToRecord}
 use Rattle.soundness.specs.Sound.{Sound, Witness}
+use Rattle.gateway_pack.specs.Filled.{filled}
+use Rattle.gateway_pack.specs.Packed.{numberLimit, packedCount}
 
 -- the number, and 16 times the length that was written, or with 7 the line
-unfoldable pub packed : AddressResult → ℕ
-packed o = o .number + 16 * cond (eqb (o .number) 7) (o .line) (o .size)
+abbrev pub packed : AddressResult → ℕ
+packed o = packedCount (o .number) (o .line) (o .size)
 
 -- the value that is returned and the buffer, of a result
 pub record Exported (o : AddressResult) (r : ℕ) (new : List ℕ) : Type 0 where
@@ -60,16 +61,6 @@ textToAddress table s old = textToAddressBy (loadedFrom table) s old
 
 -- ---- the check
 
--- the buffer with the text at its front, if that fits; else as before
-unfoldable pub filled : List ℕ → List ℕ → List ℕ
-unfolding front
-filled s old = cond (ltb (length old) (length s)) old (front s old)
-
--- a text and its length
-pub record Shown (s old : List ℕ) (n : ℕ) (new : List ℕ) : Type 0 where
-  pub size : n ≡ length s
-  pub buffer : new ≡ filled s old
-
 -- 0: every canonical record that is no carrier comes back
 pub record TellsSound (t : Table) (old : List ℕ) (r : ℕ) (new : List ℕ) : Type 0 where
   pub sound : Sound t
@@ -80,29 +71,14 @@ pub record TellsSound (t : Table) (old : List ℕ) (r : ℕ) (new : List ℕ) : 
 pub record TellsWitness (t : Table) (old : List ℕ) (r : ℕ) (new : List ℕ) : Type 0 where
   pub shown : Record
   pub witness : Witness t shown
-  pub value : r ≡ 8 + 16 * length (recordText keys (view shown))
+  pub value : r ≡ 8 + numberLimit * length (recordText keys (view shown))
   pub buffer : new ≡ filled (recordText keys (view shown)) old
 
 -- 7: the first bad line
 pub record TellsMalformed (n : ℕ) (old : List ℕ) (r : ℕ) (new : List ℕ) : Type 0 where
-  pub value : r ≡ 7 + 16 * n
+  pub value : r ≡ 7 + numberLimit * n
   pub buffer : new ≡ old
 
 abbrev pub ExportedCheck : TableOutcome → List ℕ → ℕ → List ℕ → Type 0
 ExportedCheck (malformed n) old r new = TellsMalformed n old r new
 ExportedCheck (wellFormed t) old r new = TellsSound t old r new ⊎ TellsWitness t old r new
-
--- ---- a text in a buffer: dates, and the restricted encoding
-
--- 2 to the power 60. A number and 16 times a length below it fit in one value; and no buffer has so many bytes, since an address of the machine
--- has 57 bits at most
-abbrev pub lengthLimit : ℕ
-lengthLimit = 1152921504606846976
-
--- the number, and 16 times the length that was written
-abbrev pub packedText : TextResult → ℕ
-packedText o = o .number + 16 * (o .size % lengthLimit)
-
-pub record ExportedText (o : TextResult) (r : ℕ) (new : List ℕ) : Type 0 where
-  pub value : r ≡ packedText o
-  pub buffer : new ≡ o .buffer

@@ -1,4 +1,2 @@
 pub mod Exports
-pub mod Mailboxes
 pub mod Promises
-pub mod Texts

@@ -44,9 +44,9 @@ use Rattle.mailbox.specs.Needless.{noNeedless}
 use Rattle.router_line.specs.Line.{answerRoom}
 use Rattle.router.specs.Run.{Calls, Routing, Waits, whole}
 use Rattle.router.specs.declared.run.Routed.{Routed}
-use Rattle.gateway.specs.Exports.{addressToText, lengthLimit, packedText, textToAddress}
-use Rattle.gateway.specs.Mailboxes.{packedPlace}
-use Rattle.gateway.specs.Texts.{recordOfText, textOfRecord}
+use Rattle.gateway_pack.specs.Packed.{lengthLimit, numberLimit, packedPlace, packedText, placeLimit}
+use Rattle.gateway_text.specs.Texts.{recordOfText, textOfRecord}
+use Rattle.gateway.specs.Exports.{addressToText, textToAddress}
 
 -- ---- demand 1: "a result or a numbered refusal; a refusal returns an empty record or length 0 and leaves the lent buffer as it was"
 
@@ -55,27 +55,31 @@ abbrev pub EndsRecord : List ℕ → ℕ → Record → Type 0
 EndsRecord numbers n r = (n ≡ 0) ⊎ ((member n numbers ≡ true) × (r ≡ emptyRecord))
 
 -- 0 with a text at the front of the buffer and the rest as before; or one of these numbers, length 0 and the buffer as it was
-pub record Written (old : List ℕ) (o : AddressResult) : Type 0 where
+pub record Written (old : List ℕ) (o : TextResult) : Type 0 where
   pub done : o .number ≡ 0
   pub fits : o .size ≤ length old
   pub same : length (o .buffer) ≡ length old
   pub rest : drop (o .size) (o .buffer) ≡ drop (o .size) old
 
-pub record Left (numbers old : List ℕ) (o : AddressResult) : Type 0 where
+pub record Left (numbers old : List ℕ) (o : TextResult) : Type 0 where
   pub number : member (o .number) numbers ≡ true
   pub size : o .size ≡ 0
   pub buffer : o .buffer ≡ old
 
-abbrev pub EndsBuffer : List ℕ → List ℕ → AddressResult → Type 0
+abbrev pub EndsBuffer : List ℕ → List ℕ → TextResult → Type 0
 EndsBuffer numbers old o = Written old o ⊎ Left numbers old o
+
+-- what record to address comes to as any text in a lent buffer does, which has no line
+abbrev pub withoutLine : AddressResult → TextResult
+withoutLine o = record { number = o .number; size = o .size; buffer = o .buffer }
 
 pub record Demand1 : Type 0 where
   pub to-record : (table s : List ℕ) → EndsRecord (1 ∷ 2 ∷ 3 ∷ 7 ∷ []) (addressToRecord table s .number) (addressToRecord table s .record')
-  pub to-address : (table : List ℕ) (r : Record) (old : List ℕ) → EndsBuffer (4 ∷ 5 ∷ 6 ∷ 7 ∷ []) old (recordToAddress table r old)
+  pub to-address : (table : List ℕ) (r : Record) (old : List ℕ) → EndsBuffer (4 ∷ 5 ∷ 6 ∷ 7 ∷ []) old (withoutLine (recordToAddress table r old))
   pub read-record : (s : List ℕ) → EndsRecord (4 ∷ []) (recordOfText s .number) (recordOfText s .record')
-  pub write-record : (r : Record) (old : List ℕ) → EndsBuffer (4 ∷ 6 ∷ []) old (textOfRecord r old)
-  pub address-text : (table s old : List ℕ) → EndsBuffer (1 ∷ 2 ∷ 3 ∷ 6 ∷ 7 ∷ []) old (addressToText table s old)
-  pub text-address : (table s old : List ℕ) → EndsBuffer (4 ∷ 5 ∷ 6 ∷ 7 ∷ []) old (textToAddress table s old)
+  pub write-record : (r : Record) (old : List ℕ) → EndsBuffer (4 ∷ 6 ∷ []) old (withoutLine (textOfRecord r old))
+  pub address-text : (table s old : List ℕ) → EndsBuffer (1 ∷ 2 ∷ 3 ∷ 6 ∷ 7 ∷ []) old (withoutLine (addressToText table s old))
+  pub text-address : (table s old : List ℕ) → EndsBuffer (4 ∷ 5 ∷ 6 ∷ 7 ∷ []) old (withoutLine (textToAddress table s old))
 
 -- ---- demand 2: "exactly document 01's, both ways, each refusal exactly when its rule says. An address carried whole comes back to the byte."
 
@@ -144,32 +148,18 @@ pub record Router : Type 0 where
   pub moves : (table s old new : List ℕ) (over last : Bool) (r : Routed) → Routing (loadedFrom table) over s last old r new
       → answerRoom ≤ length old → r .taken ≡ 0 → Waits last s
 
--- ---- a text in a lent buffer, of the requests that came after: as in demand 1
-
-pub record TextWritten (old : List ℕ) (o : TextResult) : Type 0 where
-  pub done : o .number ≡ 0
-  pub fits : o .size ≤ length old
-  pub same : length (o .buffer) ≡ length old
-  pub rest : drop (o .size) (o .buffer) ≡ drop (o .size) old
-
-pub record TextLeft (numbers old : List ℕ) (o : TextResult) : Type 0 where
-  pub number : member (o .number) numbers ≡ true
-  pub size : o .size ≡ 0
-  pub buffer : o .buffer ≡ old
-
-abbrev pub EndsText : List ℕ → List ℕ → TextResult → Type 0
-EndsText numbers old o = TextWritten old o ⊎ TextLeft numbers old o
+-- ---- a text in a lent buffer, of the requests that came after: it ends as in demand 1
 
 -- the number and the length are read off the one value that the functions for C return; no buffer has so many bytes as `lengthLimit`
 pub record Packing : Type 0 where
-  pub number : (o : TextResult) → o .number < 16 → packedText o % 16 ≡ o .number
-  pub size : (o : TextResult) → o .number < 16 → o .size < lengthLimit → packedText o / 16 ≡ o .size
+  pub number : (o : TextResult) → o .number < numberLimit → packedText o % numberLimit ≡ o .number
+  pub size : (o : TextResult) → o .number < numberLimit → o .size < lengthLimit → packedText o / numberLimit ≡ o .size
 
 -- ---- dates: "Going out to either form and back gives the same date, time and offset. Refusals: 10 .. then 6"
 
 pub record Dates : Type 0 where
-  pub to-822 : (s old : List ℕ) → EndsText (10 ∷ 6 ∷ []) old (utcToDate s old)
-  pub to-x400 : (s old : List ℕ) → EndsText (10 ∷ 6 ∷ []) old (dateToUtc s old)
+  pub to-822 : (s old : List ℕ) → EndsBuffer (10 ∷ 6 ∷ []) old (utcToDate s old)
+  pub to-x400 : (s old : List ℕ) → EndsBuffer (10 ∷ 6 ∷ []) old (dateToUtc s old)
   pub utc-back : (d : DateTime) → isDate d ≡ true → readUtc (utcText d) ≡ some d
   pub date-back : (d : DateTime) → isDate d ≡ true → readDate (dateText d) ≡ some d
   pub utc-is : (s : List ℕ) (d : DateTime) → readUtc s ≡ some d → isDate d ≡ true
@@ -179,8 +169,8 @@ pub record Dates : Type 0 where
 -- .. Refusals: 1 for a byte over 127, then 6"
 
 pub record Restricted : Type 0 where
-  pub restrict : (s old : List ℕ) → EndsText (1 ∷ 6 ∷ []) old (restrictText s old)
-  pub unrestrict : (s old : List ℕ) → EndsText (1 ∷ 6 ∷ []) old (unrestrictText s old)
+  pub restrict : (s old : List ℕ) → EndsBuffer (1 ∷ 6 ∷ []) old (restrictText s old)
+  pub unrestrict : (s old : List ℕ) → EndsBuffer (1 ∷ 6 ∷ []) old (unrestrictText s old)
   pub back : (s : List ℕ) → all isChar s ≡ true → decodedRestricted (codedRestricted s) ≡ s
   -- by the calls: what one wrote, given to the other with room for the text
   pub calls-back : (s old new : List ℕ) → restrictText s old .number ≡ 0 → length s ≤ length new
@@ -207,7 +197,7 @@ abbrev pub addressOnly : List ℕ → Bool → List ℕ → Bare
 addressOnly l q d = record { local = l; isQuoted = q; domain = d; phrase = emptyStart }
 
 pub record Mailboxes : Type 0 where
-  pub ends : (s old : List ℕ) → EndsText (2 ∷ 9 ∷ 1 ∷ 6 ∷ []) old (readMailbox s old .text)
+  pub ends : (s old : List ℕ) → EndsBuffer (2 ∷ 9 ∷ 1 ∷ 6 ∷ []) old (readMailbox s old .text)
   pub rules : (s old : List ℕ) → MailboxRules s old
   -- what is written has the accepted shape, and unquotes to the meaning of the words that were read
   pub shape : (s : List ℕ) (b : Bare) → bareIn s ≡ some b
@@ -223,8 +213,8 @@ pub record Mailboxes : Type 0 where
   pub again : (s : List ℕ) (b : Bare) → bareIn s ≡ some b → length s ≤ longestLine
       → (reading (bareText b) ≡ readAs (addressOnly (b .local) (b .isQuoted) (b .domain))) × (bareText (addressOnly (b .local) (b .isQuoted) (b .domain)) ≡ bareText b)
   -- start and length are read off the one value for C
-  pub place-start : (s : List ℕ) → packedPlace (phrasePlace s) / 65536 ≡ phrasePlace s .start
-  pub place-size : (s : List ℕ) → packedPlace (phrasePlace s) % 65536 ≡ phrasePlace s .size
+  pub place-start : (s : List ℕ) → packedPlace (phrasePlace s) / placeLimit ≡ phrasePlace s .start
+  pub place-size : (s : List ℕ) → packedPlace (phrasePlace s) % placeLimit ≡ phrasePlace s .size
   -- nesting is counted exactly
   pub nested : (n : ℕ) → nestsTooDeep (replicate n 40 ++ (replicate n 41 ++ bytes "a@b")) ≡ ltb 8 n
 

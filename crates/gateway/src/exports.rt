@@ -1,67 +1,49 @@
 // The functions for C and for Rust without Rattle. Each slice is a pointer and a length; docs/include/gateway.h says what they do.
-use crate::entry::TEXT_ROOM;
 use crate::entry::check;
-use crate::entry::date_to_822;
-use crate::entry::date_to_x400;
-use crate::entry::phrase_place;
-use crate::entry::put_text;
-use crate::entry::read_record;
-use crate::entry::restrict;
-use crate::entry::route;
 use crate::entry::shared_tail;
 use crate::entry::to_address;
 use crate::entry::to_record;
-use crate::entry::unrestrict;
-use crate::entry::write_canonical;
-use chars::write::put;
-use dates::convert::DateWritten;
-use dates::convert::date_number;
-use mailbox::entry::MailboxWritten;
-use mailbox::entry::mailbox_number;
-use mailbox::entry::read_mailbox;
+use gateway_dates::packed_date_to_822;
+use gateway_dates::packed_date_to_x400;
+use gateway_mailbox::packed_mailbox;
+use gateway_mailbox::packed_phrase;
+use gateway_pack::NUMBER_LIMIT;
+use gateway_pack::pack;
+use gateway_restricted::packed_restrict;
+use gateway_restricted::packed_unrestrict;
+use gateway_route::route;
+use gateway_text::read::read_record;
+use gateway_text::write::show;
+use gateway_text::write::write_canonical;
 use mapping::answers::ToAddress;
 use mapping::answers::address_line;
 use mapping::answers::address_number;
 use mapping::answers::record_line;
 use mapping::answers::record_number;
-use oraddr::record::Record;
-use restricted::convert::RestrictedWritten;
-use restricted::convert::restricted_number;
 use soundness::answers::CheckAnswer;
 ghost use mathlib.Core.Path.{_≡_};
-ghost use mathlib.Core.Bool.{true};
 ghost use mathlib.Core.List.{[]};
-ghost use Prim.Native.Nat.{_≤_, _<_};
+ghost use Prim.Native.Nat.{_≤_};
 ghost use lib.ListN.{length};
-ghost use Rattle.oraddr.specs.Canonical.{canonicalRecord};
-ghost use Rattle.oraddr.specs.View.{view};
-ghost use Rattle.ortext_segments.specs.Keys.{keys};
-ghost use Rattle.ortext_write.specs.Write.{recordText};
 ghost use Rattle.mailaddr.specs.Tail.{sharedTail};
 ghost use Rattle.table.specs.Lines.{loadedFrom};
 ghost use Rattle.mapping.specs.Answers.{addressBadLine, toldAddress};
 ghost use Rattle.router.specs.Run.{Routing};
-ghost use Rattle.dates.specs.Answers.{told as toldDate};
 ghost use Rattle.dates.specs.Convert.{dateToUtc, utcToDate};
-ghost use Rattle.restricted.specs.Answers.{told as toldRestricted};
 ghost use Rattle.restricted.specs.Convert.{restrictText, unrestrictText};
-ghost use Rattle.mailbox.specs.Answers.{toldWritten};
 ghost use Rattle.mailbox.specs.Mailbox.{phrasePlace, readMailbox};
-ghost use Rattle.gateway.specs.Mailboxes.{packedPlace};
-ghost use Rattle.gateway.specs.Exports.{Exported, ExportedCheck, ExportedText, Shown, addressToText, filled, packed, packedText, textToAddress};
+ghost use Rattle.gateway_pack.specs.Packed.{ExportedText, mostCount, packedPlace};
+ghost use Rattle.gateway.specs.Exports.{Exported, ExportedCheck, addressToText, packed, textToAddress};
 
-// A result in one value: its number, and 16 times the length or the line.
-fn pack(done: ToAddress) -> usize
-    requires { ⌜ done .size ≤ 65539 ⌝ }
-    requires { ⌜ addressBadLine (done .answer) ≤ 65539 ⌝ }
+// A mapping's result in one value.
+fn pack_address(done: ToAddress) -> usize
+    requires { ⌜ done .size ≤ mostCount ⌝ }
+    requires { ⌜ addressLine (done .answer) ≤ mostCount ⌝ }
     ensures { λ r. ⌜ r ≡ packed (toldAddress done []) ⌝ }
 {
     let answer = done.answer;
     let number = address_number(answer);
-    if number == 7 {
-        return number + 16 * address_line(answer);
-    }
-    number + 16 * done.size
+    pack(number, address_line(answer), done.size)
 }
 
 // An address to a record's text in `out`.
@@ -74,9 +56,9 @@ pub extern "C" fn gateway_to_record(table: &[u8], address: &[u8], out: &mut [u8]
     let number = record_number(answer);
     if number == 0 {
         let rec = done.record;
-        return pack(write_canonical(rec, out));
+        return pack_address(write_canonical(rec, out));
     }
-    number + 16 * record_line(answer)
+    pack(number, record_line(answer), 0)
 }
 
 // A record text to an address in `out`. A text that gives no canonical record gives an empty one, which has the refusals of any that is not
@@ -87,28 +69,7 @@ pub extern "C" fn gateway_to_address(table: &[u8], record_text: &[u8], out: &mut
 {
     let done = read_record(record_text);
     let rec = done.record;
-    pack(to_address(table, rec, out))
-}
-
-// A text in `out`, if it fits.
-fn fill(out: &mut [u8], s: &[u8])
-    ensures { λ _. ⌜ now (out .exit) ≡ filled (now (s .entry)) (now (out .entry)) ⌝ }
-{
-    if out.len() < s.len() {
-        return;
-    }
-    put(out, 0, s);
-}
-
-// A witness's text in `out`, if it fits, and its length.
-fn show(rec: Record, out: &mut [u8]) -> usize
-    requires { ⌜ canonicalRecord rec ≡ true ⌝ }
-    ensures { λ r. ⌜ Shown (recordText keys (view rec)) (now (out .entry)) r (now (out .exit)) ⌝ }
-{
-    let mut text = [0u8; TEXT_ROOM];
-    let n = put_text(&mut text, rec);
-    fill(out, &text[..n]);
-    n
+    pack_address(to_address(table, rec, out))
 }
 
 // The check of a table text, and a witness's text in `out`, if it fits.
@@ -121,8 +82,8 @@ pub extern "C" fn gateway_check(table: &[u8], out: &mut [u8]) -> usize
     let rec = done.record;
     match answer {
         CheckAnswer::Sound => 0,
-        CheckAnswer::Unsound => 8 + 16 * show(rec, out),
-        CheckAnswer::Malformed(line) => 7 + 16 * line,
+        CheckAnswer::Unsound => 8 + NUMBER_LIMIT * show(rec, out),
+        CheckAnswer::Malformed(line) => 7 + NUMBER_LIMIT * line,
     }
 }
 
@@ -153,31 +114,12 @@ pub extern "C" fn gateway_route(
     done.over
 }
 
-// 2^60: more bytes than any buffer has, since an address of the machine has 57 bits at most.
-const LENGTH_LIMIT: usize = 1152921504606846976;
-
-// A number and a text's length in one value. The remainder changes no length that there is, and for any keeps the value in range.
-fn pack_text(number: usize, size: usize) -> usize
-    requires { ⌜ number < 16 ⌝ }
-    ensures { λ r. ⌜ r ≡ packedText (record { number = number; size = size; buffer = [] }) ⌝ }
-{
-    number + 16 * (size % LENGTH_LIMIT)
-}
-
-// A date's result in one value.
-fn pack_date(done: DateWritten) -> usize
-    ensures { λ r. ⌜ r ≡ packedText (toldDate done []) ⌝ }
-{
-    let answer = done.answer;
-    pack_text(date_number(answer), done.size)
-}
-
 // X.400's UTCTime to RFC 822's date-time in `out`.
 #[no_mangle]
 pub extern "C" fn gateway_date_to_822(utc: &[u8], out: &mut [u8]) -> usize
     ensures { λ r. ⌜ ExportedText (utcToDate (now (utc .entry)) (now (out .entry))) r (now (out .exit)) ⌝ }
 {
-    pack_date(date_to_822(utc, out))
+    packed_date_to_822(utc, out)
 }
 
 // RFC 822's date-time to X.400's UTCTime in `out`.
@@ -185,15 +127,7 @@ pub extern "C" fn gateway_date_to_822(utc: &[u8], out: &mut [u8]) -> usize
 pub extern "C" fn gateway_date_to_x400(date: &[u8], out: &mut [u8]) -> usize
     ensures { λ r. ⌜ ExportedText (dateToUtc (now (date .entry)) (now (out .entry))) r (now (out .exit)) ⌝ }
 {
-    pack_date(date_to_x400(date, out))
-}
-
-// A restricted encoding's result in one value.
-fn pack_restricted(done: RestrictedWritten) -> usize
-    ensures { λ r. ⌜ r ≡ packedText (toldRestricted done []) ⌝ }
-{
-    let answer = done.answer;
-    pack_text(restricted_number(answer), done.size)
+    packed_date_to_x400(date, out)
 }
 
 // A local part's unquoted text in RFC 1137's restricted encoding, in `out`.
@@ -201,7 +135,7 @@ fn pack_restricted(done: RestrictedWritten) -> usize
 pub extern "C" fn gateway_restrict(text: &[u8], out: &mut [u8]) -> usize
     ensures { λ r. ⌜ ExportedText (restrictText (now (text .entry)) (now (out .entry))) r (now (out .exit)) ⌝ }
 {
-    pack_restricted(restrict(text, out))
+    packed_restrict(text, out)
 }
 
 // A text in that encoding back to what it stands for, in `out`.
@@ -209,15 +143,7 @@ pub extern "C" fn gateway_restrict(text: &[u8], out: &mut [u8]) -> usize
 pub extern "C" fn gateway_unrestrict(text: &[u8], out: &mut [u8]) -> usize
     ensures { λ r. ⌜ ExportedText (unrestrictText (now (text .entry)) (now (out .entry))) r (now (out .exit)) ⌝ }
 {
-    pack_restricted(unrestrict(text, out))
-}
-
-// A mailbox's result in one value.
-fn pack_mailbox(done: MailboxWritten) -> usize
-    ensures { λ r. ⌜ r ≡ packedText (toldWritten done [] .text) ⌝ }
-{
-    let answer = done.answer;
-    pack_text(mailbox_number(answer), done.size)
+    packed_unrestrict(text, out)
 }
 
 // The bare address of a header line's mailbox, in `out`.
@@ -225,7 +151,7 @@ fn pack_mailbox(done: MailboxWritten) -> usize
 pub extern "C" fn gateway_mailbox(line: &[u8], out: &mut [u8]) -> usize
     ensures { λ r. ⌜ ExportedText (readMailbox (now (line .entry)) (now (out .entry)) .text) r (now (out .exit)) ⌝ }
 {
-    pack_mailbox(read_mailbox(line, out))
+    packed_mailbox(line, out)
 }
 
 // Where the phrase of a header line's mailbox stands, in one value.
@@ -233,6 +159,5 @@ pub extern "C" fn gateway_mailbox(line: &[u8], out: &mut [u8]) -> usize
 pub extern "C" fn gateway_phrase(line: &[u8]) -> usize
     ensures { λ r. ⌜ r ≡ packedPlace (phrasePlace (now (line .entry))) ⌝ }
 {
-    let phrase = phrase_place(line);
-    phrase.start * 65536 + phrase.size
+    packed_phrase(line)
 }

@@ -27,10 +27,7 @@ use Rattle.router_line.specs.Ready.{FormedBy}
 use Rattle.router_line.proofs.Laws.Line.{loaded-rules}
 use Rattle.mailaddr.specs.Answers.{Shaping, noShape, shaped, shaping, tooLong}
 use Rattle.mailaddr.specs.Code.{coded}
-
--- no count is greater: a text of 65,536 bytes has at most so many lines, and no text is longer
-abbrev pub mostCount : ℕ
-mostCount = 65539
+use Rattle.gateway_pack.specs.Packed.{mostCount}
 
 -- ---- lines
 

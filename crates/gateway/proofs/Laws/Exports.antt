@@ -2,14 +2,12 @@
 -- Assumes nothing.
 use mathlib.Core.Path.{_≡_, refl, sym, ap, _∙_}
 use mathlib.Core.Logic.{inl, inr}
-use mathlib.Core.Bool.{true, false, cond}
+use mathlib.Core.Bool.{true, false}
 use mathlib.Core.List.{List, []}
-use Prim.Native.Nat.{ℕ, _+_, _*_, _≤_, _<_}
+use Prim.Native.Nat.{ℕ, _+_, _*_, _≤_}
 use native.Mathlib.Omega.{arith}
 use borrow.Author.Tests.{ne-eqb}
-use lib.Dec.{eqb}
 use Rattle.chars.specs.Lists.{nonEmpty}
-use Rattle.chars.specs.Write.{TextResult}
 use Rattle.chars.proofs.Laws.Lists.{by-test, true-not-false}
 use Rattle.oraddr.specs.Add.{Outcome, told}
 use Rattle.oraddr.specs.Canonical.{canonicalRecord}
@@ -39,16 +37,12 @@ use Rattle.mapping.specs.declared.answers.RecordAnswer.the-variants as record-a
 use Rattle.mapping.specs.declared.answers.ToRecord.{ToRecord}
 use Rattle.mapping.proofs.Laws.Returned.{done-canonical}
 use Rattle.soundness.specs.Check.{CheckResult, Demand3}
-use Rattle.dates.specs.Answers.{dateNumber}
-use Rattle.dates.specs.declared.convert.DateAnswer.{DateAnswer}
-use Rattle.dates.specs.declared.convert.DateAnswer.the-variants as date-answer
-use Rattle.restricted.specs.Answers.{restrictedNumber}
-use Rattle.restricted.specs.declared.convert.RestrictedAnswer.{RestrictedAnswer}
-use Rattle.restricted.specs.declared.convert.RestrictedAnswer.the-variants as restricted-answer
-use Rattle.gateway.specs.Exports.{Exported, ExportedCheck, ExportedText, Shown, addressToText, packed, packedText, readingToAddress, textResult, textToAddress, textToAddressBy}
-use Rattle.gateway.specs.Texts.{readOutcome, recordOfText}
-use Rattle.gateway.proofs.Laws.Texts.{outcome-done, outcome-not}
-use Rattle.gateway.proofs.Laws.Bounds.{address-bound, line-bound, mostCount, placed-line, placed-size, record-line-bound}
+use Rattle.gateway_pack.specs.Filled.{Shown}
+use Rattle.gateway_pack.specs.Packed.{mostCount, numberLimit, packedCount}
+use Rattle.gateway_text.specs.Texts.{readOutcome, recordOfText}
+use Rattle.gateway_text.proofs.Laws.Texts.{outcome-done, outcome-not}
+use Rattle.gateway.specs.Exports.{Exported, ExportedCheck, addressToText, packed, readingToAddress, textResult, textToAddress, textToAddressBy}
+use Rattle.gateway.proofs.Laws.Bounds.{address-bound, line-bound, placed-line, placed-size, record-line-bound}
 
 pub number-small : (a : AddressAnswer) → addressNumber a ≤ 7
 unfolding addressNumber
@@ -60,7 +54,7 @@ number-small (address-answer.Malformed l) = omega arith
 
 -- a result as it was told, in one value
 pub exported : (o : AddressResult) (w : ToAddress) (r : ℕ) (new : List ℕ) → toldAddress w new ≡ o → r ≡ packed (toldAddress w []) → Exported o r new
-unfolding packed toldAddress
+unfolding toldAddress
 exported o w r new e k = record { value = k ∙ ap packed e; buffer = ap (λ (x : AddressResult). x .buffer) e }
 
 -- ---- an address to a record's text
@@ -69,15 +63,6 @@ loaded-canonical : (table s : List ℕ) (l : TableOutcome) → loadedFrom table 
 unfolding toRecordBy malformedRecord
 loaded-canonical table s (malformed n) e h = absurd (omega arith)
 loaded-canonical table s (wellFormed t) e h = done-canonical t (loaded-formed table t e) s h
-
--- a refusal has a line only with 7
-refused-packed : (a : RecordAnswer) → recordNumber a + 16 * recordBadLine a ≡ recordNumber a + 16 * cond (eqb (recordNumber a) 7) (recordBadLine a) 0
-unfolding recordNumber recordBadLine
-refused-packed record-answer.Done = refl
-refused-packed record-answer.NoShape = refl
-refused-packed record-answer.TooLong = refl
-refused-packed record-answer.TooLongCoded = refl
-refused-packed (record-answer.Malformed l) = refl
 
 pub refused-small : (a : RecordAnswer) → recordNumber a ≤ 7
 unfolding recordNumber
@@ -111,13 +96,9 @@ module _ (table s old : List ℕ) (x : ToRecord) (e : toldRecord x ≡ addressTo
   unfolding addressToText textResult
   text-done z = rw (number-is, z, record-is)
 
-  pub text-not : (n ≡ 0 → ⊥) → (r : ℕ) → r ≡ n + 16 * recordBadLine (x .answer) → Exported (addressToText table s old) r old
-  unfolding addressToText textResult packed
-  text-not z r h =
-      record {
-        value = h ∙ rw (number-is, ne-eqb n 0 z, line-is, k) (refused-packed (x .answer));
-        buffer = rw (number-is, ne-eqb n 0 z);
-      }
+  pub text-not : (n ≡ 0 → ⊥) → (r : ℕ) → r ≡ packedCount n (recordLine (x .answer)) 0 → Exported (addressToText table s old) r old
+  unfolding addressToText textResult
+  text-not z r h = record { value = h ∙ rw (number-is, ne-eqb n 0 z, line-is); buffer = rw (number-is, ne-eqb n 0 z) }
 
 -- the text of a canonical record is short
 pub text-counts : (r : Record) (old new : List ℕ) (w : ToAddress) → canonicalRecord r ≡ true → toldAddress w new ≡ placed (recordText keys (view r)) old
@@ -187,15 +168,15 @@ tells-sound (malformed n) o old d h = absurd (omega (arith, d .number))
 tells-sound (wellFormed t) o old (inl a) h = inl (record { sound = a .sound; value = refl; buffer = refl })
 tells-sound (wellFormed t) o old (inr r) h = absurd (omega (arith, r .number))
 
-pub tells-witness : (l : TableOutcome) (o : CheckResult) (old new : List ℕ) (n : ℕ) → Demand3 l o → o .number ≡ 8 → Shown (recordText keys (view (o .record'))) old n new
-    → ExportedCheck l old (8 + 16 * n) new
+pub tells-witness : (l : Loaded) (o : CheckResult) (old new : List ℕ) (n : ℕ) → Demand3 l o → o .number ≡ 8 → Shown (recordText keys (view (o .record'))) old n new
+    → ExportedCheck l old (8 + numberLimit * n) new
 tells-witness (malformed m) o old new n d h k = absurd (omega (arith, d .number))
 tells-witness (wellFormed t) o old new n (inl a) h k = absurd (omega (arith, a .number))
 tells-witness (wellFormed t) o old new n (inr r) h k =
-    inr (record { shown = o .record'; witness = r .witness; value = ap (λ (m : ℕ). 8 + 16 * m) (k .size); buffer = k .buffer })
+    inr (record { shown = o .record'; witness = r .witness; value = ap (λ (m : ℕ). 8 + numberLimit * m) (k .size); buffer = k .buffer })
 
-pub tells-malformed : (l : TableOutcome) (o : CheckResult) (old : List ℕ) → Demand3 l o → o .number ≡ 7 → ExportedCheck l old (7 + 16 * o .line) old
-tells-malformed (malformed n) o old d h = record { value = ap (λ (m : ℕ). 7 + 16 * m) (d .line); buffer = refl }
+pub tells-malformed : (l : Loaded) (o : CheckResult) (old : List ℕ) → Demand3 l o → o .number ≡ 7 → ExportedCheck l old (7 + numberLimit * o .line) old
+tells-malformed (malformed n) o old d h = record { value = ap (λ (m : ℕ). 7 + numberLimit * m) (d .line); buffer = refl }
 tells-malformed (wellFormed t) o old (inl a) h = absurd (omega (arith, a .number))
 tells-malformed (wellFormed t) o old (inr r) h = absurd (omega (arith, r .number))
 
@@ -211,19 +192,3 @@ check-line table o d = by-table (loadedFrom table) refl d
 pub shown-size : (r : Record) (old new : List ℕ) (n : ℕ) → canonicalRecord r ≡ true → Shown (recordText keys (view r)) old n new → n ≤ mostCount
 unfolding remaining
 shown-size r old new n c k = omega (arith, k .size, text-bound (view r) (canonical-view r c) 0)
-
--- ---- a text in a buffer
-
--- a result as it was told, in one value
-pub exported-text : (o t : TextResult) (r : ℕ) → t ≡ o → r ≡ packedText t → ExportedText o r (t .buffer)
-exported-text o t r e k = record { value = k ∙ ap packedText e; buffer = ap (λ (x : TextResult). x .buffer) e }
-
-pub date-small : (a : DateAnswer) → dateNumber a < 16
-date-small date-answer.Done = omega arith
-date-small date-answer.NoDate = omega arith
-date-small date-answer.ShortBuffer = omega arith
-
-pub restricted-small : (a : RestrictedAnswer) → restrictedNumber a < 16
-restricted-small restricted-answer.Done = omega arith
-restricted-small restricted-answer.ByteOver127 = omega arith
-restricted-small restricted-answer.ShortBuffer = omega arith

@@ -7,7 +7,7 @@ use native.Mathlib.Omega.{arith}
 use Rattle.oraddr.specs.Canonical.{canonicalRecord}
 use Rattle.table.specs.Lines.{loadedFrom}
 use Rattle.soundness.specs.Check.{checkLine, checkNumber, toldCheck}
-use Rattle.gateway.proofs.Laws.Bounds.{mostCount}
+use Rattle.gateway_pack.specs.Packed.{mostCount, numberLimit}
 use Rattle.gateway.proofs.Laws.Exports.{check-line, shown-size, tells-malformed, tells-sound, tells-witness, witness-canonical}
 use Rattle.gateway.specs.Exports.{ExportedCheck}
 use borrow.Author.Needs.{needs}
@@ -80,7 +80,7 @@ returns-3 : tie.Need-returns-3
 returns-3 c =
     let k = c .before .before .before .before in
     let a = k .before .before .before .args in
-    subst (λ (n : ℕ). ExportedCheck (loadedFrom (a .table .now)) (a .out .now) (7 + 16 * n) (a .out .now)) (ap checkLine (c .before .answer .given .1))
+    subst (λ (n : ℕ). ExportedCheck (loadedFrom (a .table .now)) (a .out .now) (7 + numberLimit * n) (a .out .now)) (ap checkLine (c .before .answer .given .1))
     (tells-malformed (loadedFrom (a .table .now)) (toldCheck (k .check .result)) (a .out .now) (k .check .ensures) (ap checkNumber (c .before .answer .given .1)))
 
 pub gateway-check-spec : {M : Type 1} → statement M

@@ -13,8 +13,8 @@ read-record-requires c κs = search needs
 to-address-requires : tie.Need-to-address-requires
 to-address-requires c κs = search needs
 
-pack-requires : tie.Need-pack-requires
-pack-requires c κs =
+pack-address-requires : tie.Need-pack-address-requires
+pack-address-requires c κs =
     let w = c .before .before in
     let a = w .before .before .before .before .before .before .before .args in
     address-counts (a .table .now) (w .before .before .before .read-record .result .«record») (a .out .now) (w .to-address .last .1 .1 .0) (w .to-address .result) (w .to-address .ensures)
@@ -27,9 +27,9 @@ returns c =
     let w = c .before .before .before in
     let a = w .before .before .before .before .before .before .before .args in
     let d = w .before .before .before .read-record in
-    exported (textToAddress (a .table .now) (a .record-text .now) (a .out .now)) (w .to-address .result) (c .pack .result) (w .to-address .last .1 .1 .0)
-    (w .to-address .ensures ∙ text-to-address (a .table .now) (a .record-text .now) (a .out .now) (d .result) (d .ensures)) (c .pack .ensures)
+    exported (textToAddress (a .table .now) (a .record-text .now) (a .out .now)) (w .to-address .result) (c .pack-address .result) (w .to-address .last .1 .1 .0)
+    (w .to-address .ensures ∙ text-to-address (a .table .now) (a .record-text .now) (a .out .now) (d .result) (d .ensures)) (c .pack-address .ensures)
 
 pub gateway-to-address-spec : {M : Type 1} → statement M
 gateway-to-address-spec =
-    tie.close (tie.spec read-record-requires to-address-requires pack-requires same-length returns)
+    tie.close (tie.spec read-record-requires to-address-requires pack-address-requires same-length returns)

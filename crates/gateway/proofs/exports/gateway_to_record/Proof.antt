@@ -2,11 +2,11 @@
 -- Assumes nothing.
 use mathlib.Core.Path.{_≡_, ap, _∙_}
 use mathlib.Core.Bool.{true}
-use Prim.Native.Nat.{ℕ, _+_, _*_, _≤_}
+use Prim.Native.Nat.{ℕ}
 use Rattle.oraddr.specs.Canonical.{canonicalRecord}
 use native.Mathlib.Omega.{arith}
+use Rattle.gateway_pack.specs.Packed.{packedCount}
 use Rattle.gateway.specs.Exports.{addressToText}
-use Rattle.gateway.proofs.Laws.Bounds.{mostCount}
 use Rattle.gateway.proofs.Laws.Exports.{exported, line-small, text-canonical, text-counts, text-done, text-not, refused-small}
 use borrow.Author.Needs.{needs}
 use Rattle.gateway.proofs.exports.gateway_to_record.Statement.{statement}
@@ -29,8 +29,8 @@ good c =
 write-canonical-requires : tie.Need-write-canonical-requires
 write-canonical-requires c κs = good c
 
-pack-requires : tie.Need-pack-requires
-pack-requires c κs =
+pack-address-requires : tie.Need-pack-address-requires
+pack-address-requires c κs =
     let w = c .before .before in
     let g = w .before in
     let t = g .before .before .before .before in
@@ -47,34 +47,30 @@ returns c =
     let t = g .before .before .before .before in
     let n = g .before .before .before .record-number in
     let a = t .before .before .before .before .args in
-    exported (addressToText (a .table .now) (a .address .now) (a .out .now)) (w .write-canonical .result) (c .pack .result) (w .write-canonical .last .1 .0)
+    exported (addressToText (a .table .now) (a .address .now) (a .out .now)) (w .write-canonical .result) (c .pack-address .result) (w .write-canonical .last .1 .0)
     (w .write-canonical .ensures ∙ text-done (a .table .now) (a .address .now) (a .out .now) (t .to-record .result) (t .to-record .ensures) (n .result) (n .ensures) (g .before .before .if1 .taken))
-    (c .pack .ensures)
+    (c .pack-address .ensures)
 
 record-line-requires : tie.Need-record-line-requires
 record-line-requires c κs = search needs
 
--- a line's number is small
-small : (c : tie.After-record-line) → c .record-line .result ≤ mostCount
-small c =
+pack-requires : tie.Need-pack-requires
+pack-requires c κs =
+    let l = c .record-line in
     let t = c .before .before .before in
     let n = c .before .before .record-number in
     let a = t .before .before .before .before .args in
-    omega (arith, c .record-line .ensures, line-small (a .table .now) (a .address .now) (a .out .now) (t .to-record .result) (t .to-record .ensures) (n .result) (n .ensures))
-
-mul-result : tie.Need-mul-result
-mul-result c = omega (arith, small c)
-
-add-result : tie.Need-add-result
-add-result c = omega (arith, small c, c .before .before .record-number .ensures, refused-small (c .before .before .before .to-record .result .answer))
+    let small = line-small (a .table .now) (a .address .now) (a .out .now) (t .to-record .result) (t .to-record .ensures) (n .result) (n .ensures) in
+    (omega (arith, n .ensures, refused-small (t .to-record .result .answer)), (omega (arith, l .ensures, small), omega arith))
 
 returns-2 : tie.Need-returns-2
 returns-2 c =
-    let t = c .before .before .before in
-    let n = c .before .before .record-number in
+    let l = c .before .record-line in
+    let t = c .before .before .before .before in
+    let n = c .before .before .before .record-number in
     let a = t .before .before .before .before .args in
-    text-not (a .table .now) (a .address .now) (a .out .now) (t .to-record .result) (t .to-record .ensures) (n .result) (n .ensures) (c .before .if1 .left)
-    (n .result + 16 * c .record-line .result) (ap (λ (l : ℕ). n .result + 16 * l) (c .record-line .ensures))
+    text-not (a .table .now) (a .address .now) (a .out .now) (t .to-record .result) (t .to-record .ensures) (n .result) (n .ensures) (c .before .before .if1 .left)
+    (c .pack .result) (c .pack .ensures ∙ ap (λ (k : ℕ). packedCount (n .result) k 0) (l .ensures))
 
 pub gateway-to-record-spec : {M : Type 1} → statement M
 gateway-to-record-spec =
@@ -83,10 +79,9 @@ gateway-to-record-spec =
     to-record-requires
     record-number-requires
     write-canonical-requires
-    pack-requires
+    pack-address-requires
     same-length
     returns
     record-line-requires
-    mul-result
-    add-result
+    pack-requires
     returns-2)

@@ -1,0 +1,26 @@
+-- `gateway_restricted::packed_unrestrict` meets its contract.
+-- Assumes nothing.
+use Rattle.restricted.specs.Answers.{told}
+use Rattle.restricted.specs.Convert.{unrestrictText}
+use Rattle.gateway_pack.proofs.Laws.Packed.{exported-text}
+use borrow.Author.Needs.{needs}
+use Rattle.gateway_restricted.proofs.packed_unrestrict.Statement.{statement}
+use Rattle.gateway_restricted.proofs.packed_unrestrict.Tie as tie
+
+unrestrict-requires : tie.Need-unrestrict-requires
+unrestrict-requires c κs = search needs
+
+pack-restricted-requires : tie.Need-pack-restricted-requires
+pack-restricted-requires c κs = search needs
+
+same-length : tie.Need-same-length
+same-length c = search needs
+
+returns : tie.Need-returns
+returns c =
+    let w = c .before .before .before in
+    let a = w .before .before .before .before .args in
+    exported-text (unrestrictText (a .text .now) (a .out .now)) (told (w .unrestrict .result) (w .unrestrict .last .1 .0)) (c .pack-restricted .result) (w .unrestrict .ensures) (c .pack-restricted .ensures)
+
+pub packed-unrestrict-spec : {M : Type 1} → statement M
+packed-unrestrict-spec = tie.close (tie.spec unrestrict-requires pack-restricted-requires same-length returns)
