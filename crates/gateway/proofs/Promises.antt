@@ -115,7 +115,7 @@ table-ends t r old =
     by-text none = left (4 ∷ 5 ∷ 6 ∷ 7 ∷ []) old 5 refl
     by-text (some s) = placed-ends (4 ∷ 5 ∷ 6 ∷ 7 ∷ []) old s refl
 
-address-ends : (l : Loaded) (r : Record) (old : List ℕ) → EndsBuffer (4 ∷ 5 ∷ 6 ∷ 7 ∷ []) old (withoutLine (toAddressBy l r old))
+address-ends : (l : TableOutcome) (r : Record) (old : List ℕ) → EndsBuffer (4 ∷ 5 ∷ 6 ∷ 7 ∷ []) old (withoutLine (toAddressBy l r old))
 unfolding toAddressBy member malformedAddress refusedText
 address-ends (malformed n) r old = left (4 ∷ 5 ∷ 6 ∷ 7 ∷ []) old 7 refl
 address-ends (wellFormed t) r old = table-ends t r old
@@ -151,7 +151,7 @@ reading-ends t refused old = left (4 ∷ 5 ∷ 6 ∷ 7 ∷ []) old 4 refl
 reading-ends t again old = left (4 ∷ 5 ∷ 6 ∷ 7 ∷ []) old 4 refl
 reading-ends t (read r) old = table-ends t r old
 
-sent-ends : (l : Loaded) (s old : List ℕ) → EndsBuffer (4 ∷ 5 ∷ 6 ∷ 7 ∷ []) old (withoutLine (textToAddressBy l s old))
+sent-ends : (l : TableOutcome) (s old : List ℕ) → EndsBuffer (4 ∷ 5 ∷ 6 ∷ 7 ∷ []) old (withoutLine (textToAddressBy l s old))
 unfolding textToAddressBy member malformedAddress refusedText
 sent-ends (malformed n) s old = left (4 ∷ 5 ∷ 6 ∷ 7 ∷ []) old 7 refl
 sent-ends (wellFormed t) s old = reading-ends t (readText keys 0 emptyRecord s) old

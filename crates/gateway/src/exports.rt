@@ -38,7 +38,7 @@ ghost use Rattle.gateway.specs.Exports.{Exported, ExportedCheck, address
 // A mapping's result in one value.
 fn pack_address(done: ToAddress) -> usize
     requires { ⌜ done .size ≤ mostCount ⌝ }
-    requires { ⌜ addressLine (done .answer) ≤ mostCount ⌝ }
+    requires { ⌜ addressBadLine (done .answer) ≤ mostCount ⌝ }
     ensures { λ r. ⌜ r ≡ packed (toldAddress done []) ⌝ }
 {
     let answer = done.answer;

@@ -2,6 +2,7 @@
 use oraddr::add::Added;
 use oraddr::add::Addition;
 use oraddr::record::Record;
+use oraddr_canonical::canonical::is_canonical;
 use ortext_read::read::Answer;
 use ortext_read::read::read_text;
 ghost use mathlib.Core.Path.{_≡_};
@@ -25,7 +26,7 @@ fn no_record() -> Addition
 fn if_canonical(rec: Record) -> Addition
     ensures { λ r. ⌜ told r ≡ readOutcome (read rec) ⌝ }
 {
-    if !rec.is_canonical() {
+    if !is_canonical(rec) {
         return no_record();
     }
     Addition {

@@ -5,6 +5,7 @@ use mapping::answers::ToAddress;
 use mapping::answers::place;
 use mapping::answers::refused;
 use oraddr::record::Record;
+use oraddr_canonical::canonical::is_canonical;
 use ortext_write::write::write_text;
 ghost use mathlib.Core.Path.{_≡_};
 ghost use mathlib.Core.Bool.{true};
@@ -45,7 +46,7 @@ pub fn write_canonical(rec: Record, out: &mut [u8]) -> ToAddress
 pub fn write_record(rec: Record, out: &mut [u8]) -> ToAddress
     ensures { λ r. ⌜ toldAddress r (now (out .exit)) ≡ textOfRecord rec (now (out .entry)) ⌝ }
 {
-    if !rec.is_canonical() {
+    if !is_canonical(rec) {
         return refused(AddressAnswer::NotCanonical);
     }
     write_canonical(rec, out)

@@ -96,7 +96,7 @@ module _ (table s old : List ℕ) (x : ToRecord) (e : toldRecord x ≡ addressTo
   unfolding addressToText textResult
   text-done z = rw (number-is, z, record-is)
 
-  pub text-not : (n ≡ 0 → ⊥) → (r : ℕ) → r ≡ packedCount n (recordLine (x .answer)) 0 → Exported (addressToText table s old) r old
+  pub text-not : (n ≡ 0 → ⊥) → (r : ℕ) → r ≡ packedCount n (recordBadLine (x .answer)) 0 → Exported (addressToText table s old) r old
   unfolding addressToText textResult
   text-not z r h = record { value = h ∙ rw (number-is, ne-eqb n 0 z, line-is); buffer = rw (number-is, ne-eqb n 0 z) }
 
@@ -168,14 +168,14 @@ tells-sound (malformed n) o old d h = absurd (omega (arith, d .number))
 tells-sound (wellFormed t) o old (inl a) h = inl (record { sound = a .sound; value = refl; buffer = refl })
 tells-sound (wellFormed t) o old (inr r) h = absurd (omega (arith, r .number))
 
-pub tells-witness : (l : Loaded) (o : CheckResult) (old new : List ℕ) (n : ℕ) → Demand3 l o → o .number ≡ 8 → Shown (recordText keys (view (o .record'))) old n new
+pub tells-witness : (l : TableOutcome) (o : CheckResult) (old new : List ℕ) (n : ℕ) → Demand3 l o → o .number ≡ 8 → Shown (recordText keys (view (o .record'))) old n new
     → ExportedCheck l old (8 + numberLimit * n) new
 tells-witness (malformed m) o old new n d h k = absurd (omega (arith, d .number))
 tells-witness (wellFormed t) o old new n (inl a) h k = absurd (omega (arith, a .number))
 tells-witness (wellFormed t) o old new n (inr r) h k =
     inr (record { shown = o .record'; witness = r .witness; value = ap (λ (m : ℕ). 8 + numberLimit * m) (k .size); buffer = k .buffer })
 
-pub tells-malformed : (l : Loaded) (o : CheckResult) (old : List ℕ) → Demand3 l o → o .number ≡ 7 → ExportedCheck l old (7 + numberLimit * o .line) old
+pub tells-malformed : (l : TableOutcome) (o : CheckResult) (old : List ℕ) → Demand3 l o → o .number ≡ 7 → ExportedCheck l old (7 + numberLimit * o .line) old
 tells-malformed (malformed n) o old d h = record { value = ap (λ (m : ℕ). 7 + numberLimit * m) (d .line); buffer = refl }
 tells-malformed (wellFormed t) o old (inl a) h = absurd (omega (arith, a .number))
 tells-malformed (wellFormed t) o old (inr r) h = absurd (omega (arith, r .number))
