@@ -1,20 +1,9 @@
 // What the program prints.
+use cases::parts::front;
 use cases::print::say;
 use cases::print::say_number;
 use dates::convert::DateAnswer;
 use dates::convert::DateWritten;
-ghost use mathlib.Core.Path.{_≡_};
-ghost use lib.ListN.{take};
-
-// The first n bytes of a buffer, or all of it.
-fn front(out: &[u8], n: usize) -> &[u8]
-    ensures { λ r. ⌜ now r ≡ take n (now (out .entry)) ⌝ }
-{
-    if out.len() < n {
-        return out;
-    }
-    &out[0..n]
-}
 
 // The number of an answer, and a tab.
 fn print_answer(answer: DateAnswer) {
