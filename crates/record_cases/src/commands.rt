@@ -1,6 +1,6 @@
 // The commands that change the record: additions, and lengths and counts set to anything. What is required of a place
 // only keeps the sums from wrapping: every place is far below, since standard input is.
-use crate::print::digit;
+use cases::print::say_number;
 use oraddr::add::Added;
 use oraddr::add::Addition;
 use oraddr::add::Attribute;
@@ -78,8 +78,8 @@ fn attribute(tag: usize) -> Attribute {
 fn told(a: Addition) -> Record {
     let answer = a.answer;
     match answer {
-        Added::Done => digit(0),
-        Added::Refused => digit(4),
+        Added::Done => say_number(0),
+        Added::Refused => say_number(4),
     }
     a.record
 }

@@ -106,9 +106,16 @@ fn run(s: &[u8])
     }
 }
 
+// Reads standard input, and runs it.
+fn read_and_run(space: &mut [u8])
+    requires { ⌜ length (now space) ≤ 262144 ⌝ }
+{
+    let n = io::read_full(libc::STDIN_FILENO, space);
+    run(&space[..n]);
+}
+
 fn main() {
     print_tables();
     let mut space = [0u8; ROOM];
-    let n = io::read_full(libc::STDIN_FILENO, &mut space);
-    run(&space[..n]);
+    read_and_run(&mut space);
 }

@@ -1,7 +1,9 @@
 // What the program prints of a record.
 ghost use Prim.Native.Nat.{_≤_};
 ghost use lib.ListN.{length};
-use libc::STDOUT_FILENO;
+use cases::print::say;
+use cases::print::say_flag;
+use cases::print::say_number;
 use oraddr::bounds::MOST;
 use oraddr::bounds::SINGLES;
 use oraddr::record::Dds;
@@ -13,26 +15,13 @@ use oraddr::value::DomainDefined;
 use oraddr::value::OrgUnit;
 use oraddr::value::Value;
 
-// One digit.
-pub(crate) fn digit(n: u64) {
-    io::print_decimal(STDOUT_FILENO, n);
-}
-
-pub(crate) fn flag(b: bool) {
-    if b {
-        digit(1);
-    } else {
-        digit(0);
-    }
-}
-
 pub(crate) fn line_end() {
-    io::write_all(STDOUT_FILENO, b"\n");
+    say(b"\n");
 }
 
 fn text(s: &[u8]) {
-    io::write_all(STDOUT_FILENO, s);
-    io::write_all(STDOUT_FILENO, b"|");
+    say(s);
+    say(b"|");
 }
 
 // How many bytes are not 0 from a place on.
@@ -55,7 +44,7 @@ fn print_room(room: &[u8], n: usize)
     requires { ⌜ n ≤ length (now room) ⌝ }
 {
     text(&room[..n]);
-    digit(dirt(room, n) as u64);
+    say_number(dirt(room, n));
 }
 
 fn print_value(v: Value) {
@@ -97,7 +86,7 @@ fn print_singles(rec: Record) {
 
 // All four places: those past the count are to be empty in a record that only additions made.
 fn print_units(units: Units) {
-    digit(units.size() as u64);
+    say_number(units.size());
     let mut i = 0;
     while i < MOST {
         print_unit(units.names[i]);
@@ -106,7 +95,7 @@ fn print_units(units: Units) {
 }
 
 fn print_dds(dds: Dds) {
-    digit(dds.size() as u64);
+    say_number(dds.size());
     let mut i = 0;
     while i < MOST {
         print_dd(dds.items[i]);
@@ -124,10 +113,10 @@ fn print_levels(rec: Record) {
 
 // A space, whether it is canonical, whether it is the same as the other, and a space.
 fn print_flags(rec: Record, other: Record) {
-    io::write_all(STDOUT_FILENO, b" ");
-    flag(rec.is_canonical());
-    flag(rec.same(other));
-    io::write_all(STDOUT_FILENO, b" ");
+    say(b" ");
+    say_flag(rec.is_canonical());
+    say_flag(rec.same(other));
+    say(b" ");
 }
 
 // The flags, the attributes and the levels.

@@ -1,9 +1,10 @@
 // The byte classes and the fold over all 256 bytes, and the rules on whole texts.
 use crate::commands::past_text;
 use crate::commands::text_at;
-use crate::print::digit;
-use crate::print::flag;
 use crate::print::line_end;
+use cases::print::say;
+use cases::print::say_flag;
+use cases::print::say_number;
 use chars::case::fold_case;
 use chars::class::is_atom_char;
 use chars::class::is_digit;
@@ -31,7 +32,7 @@ fn has(k: usize, b: u8) -> bool {
 fn print_class(k: usize) {
     let mut i: usize = 0;
     while i < 256 {
-        flag(has(k, i as u8));
+        say_flag(has(k, i as u8));
         i += 1;
     }
     line_end();
@@ -47,8 +48,8 @@ fn print_classes() {
 
 // The number of a byte folded, and a space.
 fn print_fold(b: u8) {
-    digit(fold_case(b) as u64);
-    io::write_all(libc::STDOUT_FILENO, b" ");
+    say_number(fold_case(b) as usize);
+    say(b" ");
 }
 
 fn print_folded() {
@@ -67,10 +68,10 @@ pub(crate) fn print_tables() {
 
 // The spaces rule, a value's text, atoms, a domain part.
 fn print_rules(text: &[u8]) {
-    flag(well_spaced(text));
-    flag(is_text(text));
-    flag(is_atoms(text));
-    flag(is_domain_part(text));
+    say_flag(well_spaced(text));
+    say_flag(is_text(text));
+    say_flag(is_atoms(text));
+    say_flag(is_domain_part(text));
     line_end();
 }
 

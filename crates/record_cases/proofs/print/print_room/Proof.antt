@@ -16,12 +16,12 @@ text-requires c κs = search needs
 dirt-requires : tie.Need-dirt-requires
 dirt-requires c κs = search needs
 
-digit-requires : tie.Need-digit-requires
-digit-requires c κs = search needs
+say-number-requires : tie.Need-say-number-requires
+say-number-requires c κs = search needs
 
 returns : tie.Need-returns
 returns c = search needs
 
 pub print-room-spec : {M : Type 1} → statement M
 print-room-spec =
-    tie.close (tie.spec slice-aggregate-text text-requires dirt-requires digit-requires returns)
+    tie.close (tie.spec slice-aggregate-text text-requires dirt-requires say-number-requires returns)

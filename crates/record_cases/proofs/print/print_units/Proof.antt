@@ -14,8 +14,8 @@ abbrev μ-loop : tie.MeasureT-loop
 size-requires : tie.Need-size-requires Inv-loop μ-loop
 size-requires c κs = search needs
 
-digit-requires : tie.Need-digit-requires Inv-loop μ-loop
-digit-requires c κs = search needs
+say-number-requires : tie.Need-say-number-requires Inv-loop μ-loop
+say-number-requires c κs = search needs
 
 loop-holds : tie.Need-loop-holds Inv-loop μ-loop
 loop-holds c = search needs
@@ -48,7 +48,7 @@ print-units-spec =
     Inv-loop
     μ-loop
     size-requires
-    digit-requires
+    say-number-requires
     loop-holds
     mul-print-unit
     element-copy-out-print-unit

@@ -20,8 +20,8 @@ cast-has c = search needs
 has-requires : tie.Need-has-requires Inv-loop μ-loop
 has-requires c κs = search needs
 
-flag-requires : tie.Need-flag-requires Inv-loop μ-loop
-flag-requires c κs = search needs
+say-flag-requires : tie.Need-say-flag-requires Inv-loop μ-loop
+say-flag-requires c κs = search needs
 
 add-i : tie.Need-add-i Inv-loop μ-loop
 add-i c = search needs
@@ -47,7 +47,7 @@ print-class-spec =
     loop-holds
     cast-has
     has-requires
-    flag-requires
+    say-flag-requires
     add-i
     loop-less
     loop-again
