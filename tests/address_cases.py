@@ -77,7 +77,7 @@ class Cases:
         self.stdin, self.stdout = bytearray(), bytearray()
 
     def add(self, command, texts, answer):
-        self.stdin += command + b"".join(len(t).to_bytes(2, "big") + t for t in texts)
+        self.stdin += command + b"\t" + b"\t".join(t.hex().encode() for t in texts) + b"\n"
         self.stdout += answer + b"\n"
 
     def shape(self, s):

@@ -1,8 +1,12 @@
-// The commands, one at a time. Every text has at most 2,100 bytes.
-use crate::input::part;
-use crate::input::past_text;
-use crate::input::text_at;
-use libc::STDOUT_FILENO;
+// The commands, one at a time.
+use cases::parts::first_field;
+use cases::parts::front;
+use cases::parts::rest;
+use cases::parts::second_field;
+use cases::print::say;
+use cases::print::say_flag;
+use cases::print::say_number;
+use cases::read::unhex;
 use mailaddr::code::Decoded;
 use mailaddr::code::decode;
 use mailaddr::code::put_coded;
@@ -12,36 +16,34 @@ use mailaddr::domain::part_start;
 use mailaddr::shape::Parted;
 use mailaddr::shape::ShapeRead;
 use mailaddr::shape::is_readable;
-use mailaddr::shape::put_address;
+use mailaddr::shape::put_local;
 use mailaddr::shape::read_shape;
 use mailaddr::shape::unquote_local;
 use mailaddr::tail::shared_tail;
-ghost use Prim.Native.Nat.{_<_, _≤_};
+ghost use Prim.Native.Nat.{_≤_};
 ghost use lib.ListN.{length};
 ghost use Rattle.address_cases.specs.Limits.{longestText};
 
 // Room for any text here: the longest of the input, every character of it escaped.
 const ROOM: usize = 8192;
 
-fn say(s: &[u8]) {
-    io::write_all(STDOUT_FILENO, s);
-}
+// The longest text that is looked at; the cases have none longer.
+const LONGEST: usize = 2100;
 
-fn say_number(n: usize) {
-    io::print_decimal(STDOUT_FILENO, n as u64);
+// A number, and a space.
+fn say_count(n: usize) {
+    say_number(n);
     say(b" ");
 }
 
-fn say_flag(b: bool) {
-    if b {
-        say(b"1 ");
-    } else {
-        say(b"0 ");
-    }
+// Whether something holds, and a space.
+fn say_bit(b: bool) {
+    say_flag(b);
+    say(b" ");
 }
 
 fn print_local(s: &[u8]) {
-    say_flag(is_readable(s));
+    say_bit(is_readable(s));
     say(s);
 }
 
@@ -51,15 +53,15 @@ fn print_unquoted(s: &[u8], parted: Parted)
 {
     let mut out = [0u8; ROOM];
     let n = unquote_local(&mut out, s, parted);
-    print_local(part(&out, 0, n));
+    print_local(front(&out, n));
 }
 
 fn print_parted(s: &[u8], parted: Parted)
     requires { ⌜ length (now s) ≤ longestText ⌝ }
 {
     say(b"0 ");
-    say_number(parted.at);
-    say_flag(parted.quoted);
+    say_count(parted.at);
+    say_bit(parted.quoted);
     if parted.at <= s.len() {
         print_unquoted(s, parted);
     }
@@ -80,8 +82,8 @@ fn print_coded(s: &[u8])
 {
     let mut out = [0u8; 128];
     let n = put_coded(&mut out, s);
-    say_number(n);
-    say(part(&out, 0, n));
+    say_count(n);
+    say(front(&out, n));
 }
 
 fn print_decoded(s: &[u8])
@@ -91,19 +93,27 @@ fn print_decoded(s: &[u8])
     match decode(&mut out, s) {
         Decoded::Length(n) => {
             say(b"0 ");
-            say(part(&out, 0, n));
+            say(front(&out, n));
         }
         Decoded::Undecoded => say(b"5"),
     }
 }
 
-fn print_address(s: &[u8], domain: &[u8])
-    requires { ⌜ length (now s) ≤ longestText ⌝ }
-    requires { ⌜ length (now domain) ≤ longestText ⌝ }
+// A local part, quoted where it has to be.
+fn print_quoted(s: &[u8])
+    requires { ⌜ length (now s) ≤ 2100 ⌝ }
 {
     let mut out = [0u8; ROOM];
-    let n = put_address(&mut out, 0, s, domain);
-    say(part(&out, 0, n));
+    let n = put_local(&mut out, 0, s);
+    say(front(&out, n));
+}
+
+fn print_address(s: &[u8], domain: &[u8])
+    requires { ⌜ length (now s) ≤ 2100 ⌝ }
+{
+    print_quoted(s);
+    say(b"@");
+    say(domain);
 }
 
 // The parts from the right, each with a bar behind it.
@@ -121,69 +131,54 @@ fn print_each_part(s: &[u8]) {
 }
 
 fn print_parts(s: &[u8]) {
-    say_number(count_parts(s));
-    say_flag(is_domain(s));
+    say_count(count_parts(s));
+    say_bit(is_domain(s));
     print_each_part(s);
 }
 
 fn print_tail(a: &[u8], b: &[u8]) {
     let tail = shared_tail(a, b);
-    say_number(a.len() - tail.len());
+    say_count(a.len() - tail.len());
     say(tail);
 }
 
-// A command with one text.
-fn print_one(command: u8, text: &[u8])
-    requires { ⌜ length (now text) ≤ longestText ⌝ }
+// A command on one text or two.
+fn run_command(command: u8, first: &[u8], second: &[u8])
+    requires { ⌜ length (now first) ≤ 2100 ⌝ }
 {
     match command {
-        b'S' => print_shape(text),
-        b'C' => print_coded(text),
-        b'D' => print_decoded(text),
-        _ => print_parts(text),
+        b'S' => print_shape(first),
+        b'C' => print_coded(first),
+        b'D' => print_decoded(first),
+        b'P' => print_parts(first),
+        b'Q' => print_address(first, second),
+        _ => print_tail(first, second),
     }
-}
-
-// A command with two texts.
-fn print_two(command: u8, first: &[u8], second: &[u8])
-    requires { ⌜ length (now first) ≤ longestText ⌝ }
-    requires { ⌜ length (now second) ≤ longestText ⌝ }
-{
-    if command == b'Q' {
-        print_address(first, second);
-    } else {
-        print_tail(first, second);
-    }
-}
-
-fn has_two(command: u8) -> bool {
-    match command {
-        b'Q' | b'T' => true,
-        _ => false,
-    }
-}
-
-// The texts of a command from a place on; returns where the next command starts.
-fn run_texts(command: u8, s: &[u8], at: usize) -> usize
-    requires { ⌜ at < 800000 ⌝ }
-    ensures { λ r. ⌜ at < r ⌝ }
-{
-    let next = past_text(s, at);
-    if has_two(command) {
-        print_two(command, text_at(s, at), text_at(s, next));
-        return past_text(s, next);
-    }
-    print_one(command, text_at(s, at));
-    next
-}
-
-// Runs the command at a place, and returns where the next one starts.
-pub(crate) fn run_one(s: &[u8], at: usize) -> usize
-    requires { ⌜ at < length (now s) ⌝ }
-    requires { ⌜ length (now s) ≤ 524288 ⌝ }
-    ensures { λ r. ⌜ at < r ⌝ }
-{
-    let next = run_texts(s[at], s, at + 1);
     say(b"\n");
-    next
+}
+
+// A command on texts, the first of which is no longer than what is looked at.
+fn run_texts(command: u8, first: &[u8], second: &[u8]) {
+    if LONGEST < first.len() {
+        return;
+    }
+    run_command(command, first, second);
+}
+
+// A command, and its texts in hexadecimal.
+fn run_spelt(command: u8, first: &[u8], second: &[u8]) {
+    let mut one = [0u8; ROOM];
+    let mut two = [0u8; ROOM];
+    let n = unhex(&mut one, first);
+    let m = unhex(&mut two, second);
+    run_texts(command, front(&one, n), front(&two, m));
+}
+
+// One line: a command, a tab and the texts.
+pub(crate) fn run_line(line: &[u8]) {
+    if line.len() < 2 {
+        return;
+    }
+    let texts = rest(line, 2);
+    run_spelt(line[0], first_field(texts), second_field(texts));
 }

@@ -14,6 +14,15 @@ pub fn say_number(n: usize) {
     io::print_decimal(STDOUT_FILENO, n as u64);
 }
 
+// Whether something holds, as 1 or 0.
+pub fn say_flag(b: bool) {
+    if b {
+        say(b"1");
+        return;
+    }
+    say(b"0");
+}
+
 // A byte as two hexadecimal digits.
 fn say_byte(b: u8) {
     let digits = b"0123456789abcdef";

@@ -1,5 +1,5 @@
 // What becomes of a witness when both mappings are run on it.
-use crate::input::front;
+use cases::parts::front;
 use mapping::answers::AddressAnswer;
 use mapping::answers::RecordAnswer;
 use mapping_to_address::to_address::record_to_address;

@@ -12,7 +12,8 @@ mod case;
 mod print;
 
 use case::run_line;
-use cases::lines::line_end;
+use cases::lines::line;
+use cases::lines::next_line;
 
 // Standard input, at most.
 const ROOM: usize = 262144;
@@ -20,9 +21,8 @@ const ROOM: usize = 262144;
 fn run(s: &[u8]) {
     let mut from = 0;
     while from < s.len() {
-        let end = line_end(s, from);
-        run_line(&s[from..end]);
-        from = end + 1;
+        run_line(line(s, from));
+        from = next_line(s, from);
     }
 }
 

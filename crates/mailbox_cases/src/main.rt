@@ -9,7 +9,8 @@
 mod case;
 
 use case::run_line;
-use cases::lines::line_end;
+use cases::lines::line;
+use cases::lines::next_line;
 
 // Standard input, at most.
 const ROOM: usize = 1048576;
@@ -17,9 +18,8 @@ const ROOM: usize = 1048576;
 fn run(s: &[u8]) {
     let mut from = 0;
     while from < s.len() {
-        let end = line_end(s, from);
-        run_line(&s[from..end]);
-        from = end + 1;
+        run_line(line(s, from));
+        from = next_line(s, from);
     }
 }
 

@@ -20,16 +20,12 @@ mod records;
 mod run;
 
 use run::run;
-ghost use Prim.Native.Nat.{_≤_};
-ghost use lib.ListN.{length};
 
 // Standard input, at most.
 const ROOM: usize = 2097152;
 
 // Reads standard input, and runs it.
-fn read_and_run(space: &mut [u8])
-    requires { ⌜ length (now space) ≤ 2097152 ⌝ }
-{
+fn read_and_run(space: &mut [u8]) {
     let n = io::read_full(libc::STDIN_FILENO, space);
     run(&space[..n]);
 }

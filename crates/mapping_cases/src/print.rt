@@ -1,6 +1,8 @@
 // What the program prints.
-use crate::input::part;
-use libc::STDOUT_FILENO;
+use cases::parts::front;
+use cases::print::FILLED;
+use cases::print::say;
+use cases::print::say_number;
 use mapping::answers::AddressAnswer;
 use mapping::answers::RecordAnswer;
 use mapping::answers::ToAddress;
@@ -17,17 +19,6 @@ ghost use Rattle.oraddr.specs.Canonical.{canonicalRecord};
 
 // Room for the record text of a canonical record.
 const ROOM: usize = 2304;
-
-// What a buffer is filled with: a byte that no address has.
-pub(crate) const FILLED: u8 = 255;
-
-pub(crate) fn say(s: &[u8]) {
-    io::write_all(STDOUT_FILENO, s);
-}
-
-fn say_number(n: usize) {
-    io::print_decimal(STDOUT_FILENO, n as u64);
-}
 
 // A tab and the record text of a canonical record.
 fn print_text(rec: Record)
@@ -97,11 +88,7 @@ pub(crate) fn print_to_record(r: ToRecord) {
 // The front of a buffer, n bytes of it or all.
 fn print_front(out: &[u8], n: usize) {
     say(b"\t");
-    if out.len() < n {
-        say(out);
-    } else {
-        say(part(out, 0, n));
-    }
+    say(front(out, n));
 }
 
 // How many bytes of a buffer from a place on are as before.

@@ -1,7 +1,7 @@
 // Records as any caller may fill them, whatever their lengths and counts say.
 use crate::input::byte_at;
-use crate::input::from;
 use crate::input::size_at;
+use cases::parts::rest;
 use oraddr::bounds::DD_TYPE_ROOM;
 use oraddr::bounds::DD_VALUE_ROOM;
 use oraddr::bounds::MOST;
@@ -30,14 +30,14 @@ fn fill(dst: &mut [u8], s: &[u8]) {
 // The value with a number: a length, and what stands at the front of its room.
 pub(crate) fn with_value(rec: Record, s: &[u8]) -> Record {
     let k = byte_at(s, 0);
-    let rest = from(s, 1);
+    let text = rest(s, 1);
     let mut bytes = [0u8; VALUE_ROOM];
-    fill(&mut bytes, from(rest, 2));
+    fill(&mut bytes, rest(text, 2));
     let mut next = rec;
     let mut singles = next.singles;
     if k < SINGLES {
         singles.values[k] = Value {
-            len: size_at(rest),
+            len: size_at(text),
             bytes,
         };
     }
@@ -47,7 +47,7 @@ pub(crate) fn with_value(rec: Record, s: &[u8]) -> Record {
 
 pub(crate) fn with_unit(rec: Record, s: &[u8]) -> Record {
     let mut bytes = [0u8; OU_ROOM];
-    fill(&mut bytes, from(s, 2));
+    fill(&mut bytes, rest(s, 2));
     let mut next = rec;
     let mut units = next.units;
     let n = units.count;
@@ -64,7 +64,7 @@ pub(crate) fn with_unit(rec: Record, s: &[u8]) -> Record {
 
 fn dd_type(s: &[u8]) -> DdType {
     let mut bytes = [0u8; DD_TYPE_ROOM];
-    fill(&mut bytes, from(s, 2));
+    fill(&mut bytes, rest(s, 2));
     DdType {
         len: size_at(s),
         bytes,
@@ -73,7 +73,7 @@ fn dd_type(s: &[u8]) -> DdType {
 
 fn dd_value(s: &[u8]) -> DdValue {
     let mut bytes = [0u8; DD_VALUE_ROOM];
-    fill(&mut bytes, from(s, 2));
+    fill(&mut bytes, rest(s, 2));
     DdValue {
         len: size_at(s),
         bytes,

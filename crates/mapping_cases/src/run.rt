@@ -1,16 +1,20 @@
 // The commands.
-use crate::input::end_of;
-use crate::input::from;
-use crate::input::part;
 use crate::input::size_at;
-use crate::input::unhex;
-use crate::print::FILLED;
 use crate::print::print_to_address;
 use crate::print::print_to_record;
 use crate::records::with_counts;
 use crate::records::with_dd;
 use crate::records::with_unit;
 use crate::records::with_value;
+use cases::files::read_file;
+use cases::lines::line;
+use cases::lines::next_line;
+use cases::parts::first_field;
+use cases::parts::front;
+use cases::parts::rest;
+use cases::parts::second_field;
+use cases::print::FILLED;
+use cases::read::unhex;
 use mapping_to_address::to_address::record_to_address;
 use mapping_to_record::to_record::address_to_record;
 use oraddr::record::Record;
@@ -26,24 +30,11 @@ const LINE_ROOM: usize = 8192;
 
 const OUT_ROOM: usize = 4096;
 
-// Reads the table of a name, which counts as empty where it cannot be opened.
-fn read_table(name: &[u8], buf: &mut [u8]) -> usize
-    ensures { λ r. ⌜ r ≤ length (now (buf .exit)) ⌝ }
-{
-    let fd = os::open_read(name);
-    if fd < 0 {
-        return 0;
-    }
-    let n = io::read_full(fd, buf);
-    libc::close(fd);
-    n
-}
-
 // An address to a record.
 fn run_address(table: &[u8], field: &[u8]) {
     let mut bytes = [0u8; LINE_ROOM];
     let n = unhex(&mut bytes, field);
-    print_to_record(address_to_record(table, part(&bytes, 0, n)));
+    print_to_record(address_to_record(table, front(&bytes, n)));
 }
 
 // A record to an address, in a buffer.
@@ -77,23 +68,22 @@ fn record_of(text: &[u8]) -> Record {
 fn run_text(table: &[u8], field: &[u8]) {
     let mut bytes = [0u8; LINE_ROOM];
     let n = unhex(&mut bytes, field);
-    run_record(table, record_of(part(&bytes, 0, n)), 2048);
+    run_record(table, record_of(front(&bytes, n)), 2048);
 }
 
 // A further attribute, from one field or two.
 fn change(rec: Record, tag: u8, field: &[u8]) -> Record {
     let mut bytes = [0u8; LINE_ROOM];
-    let stop = end_of(field, 0, b'\t');
-    let n = unhex(&mut bytes, part(field, 0, stop));
-    let first = part(&bytes, 0, n);
+    let n = unhex(&mut bytes, first_field(field));
+    let first = front(&bytes, n);
     match tag {
         b'V' => with_value(rec, first),
         b'U' => with_unit(rec, first),
         b'C' => with_counts(rec, first),
         b'D' => {
             let mut more = [0u8; LINE_ROOM];
-            let m = unhex(&mut more, from(field, stop + 1));
-            with_dd(rec, first, part(&more, 0, m))
+            let m = unhex(&mut more, second_field(field));
+            with_dd(rec, first, front(&more, m))
         }
         _ => Record::empty(),
     }
@@ -107,12 +97,12 @@ fn run_room(table: &[u8], rec: Record, field: &[u8]) {
 }
 
 // One line under a table: the record after it.
-fn run_line(table: &[u8], rec: Record, line: &[u8]) -> Record {
-    if line.len() == 0 {
+fn run_line(table: &[u8], rec: Record, case: &[u8]) -> Record {
+    if case.len() == 0 {
         return rec;
     }
-    let field = from(line, 2);
-    match line[0] {
+    let field = rest(case, 2);
+    match case[0] {
         b'A' => run_address(table, field),
         b'O' => run_text(table, field),
         b'R' => run_room(table, rec, field),
@@ -125,7 +115,6 @@ fn run_line(table: &[u8], rec: Record, line: &[u8]) -> Record {
 
 // Runs the lines from `at` on up to the next table's, and returns where that starts.
 fn run_lines(s: &[u8], at: usize, table: &[u8]) -> usize
-    requires { ⌜ length (now s) ≤ 2097152 ⌝ }
     ensures { λ r. ⌜ at ≤ r ⌝ }
 {
     let mut rec = Record::empty();
@@ -134,28 +123,32 @@ fn run_lines(s: &[u8], at: usize, table: &[u8]) -> usize
         if s[next] == b'T' {
             return next;
         }
-        let end = end_of(s, next, b'\n');
-        rec = run_line(table, rec, &s[next..end]);
-        next = end + 1;
+        rec = run_line(table, rec, line(s, next));
+        next = next_line(s, next);
     }
     next
 }
 
-// Takes the table that the line at `at` names, runs the lines that follow it, and returns where the next table's line starts.
-fn run_table(s: &[u8], at: usize) -> usize
+// Reads the table that the line at `at` names into the room for it, runs the lines that follow it, and returns where the next table's line
+// starts.
+fn run_read(s: &[u8], at: usize, space: &mut [u8]) -> usize
     requires { ⌜ at < length (now s) ⌝ }
-    requires { ⌜ length (now s) ≤ 2097152 ⌝ }
     ensures { λ r. ⌜ at < r ⌝ }
 {
-    let end = end_of(s, at, b'\n');
-    let mut space = [0u8; TABLE_ROOM];
-    let n = read_table(part(s, at + 2, end), &mut space);
-    run_lines(s, end + 1, part(&space, 0, n))
+    let n = read_file(rest(line(s, at), 2), space);
+    run_lines(s, next_line(s, at), front(space, n))
 }
 
-pub(crate) fn run(s: &[u8])
-    requires { ⌜ length (now s) ≤ 2097152 ⌝ }
+// Runs the table that the line at `at` names, and returns where the next table's line starts.
+fn run_table(s: &[u8], at: usize) -> usize
+    requires { ⌜ at < length (now s) ⌝ }
+    ensures { λ r. ⌜ at < r ⌝ }
 {
+    let mut space = [0u8; TABLE_ROOM];
+    run_read(s, at, &mut space)
+}
+
+pub(crate) fn run(s: &[u8]) {
     let mut at = 0;
     while at < s.len() {
         at = run_table(s, at);

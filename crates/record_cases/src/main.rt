@@ -15,7 +15,8 @@ mod commands;
 mod print;
 mod rules;
 
-use cases::lines::line_end;
+use cases::lines::line;
+use cases::lines::next_line;
 use cases::read::number;
 use cases::read::unhex;
 use commands::change;
@@ -85,9 +86,8 @@ fn run(s: &[u8]) {
     let mut pair = empty_pair();
     let mut from = 0;
     while from < s.len() {
-        let end = line_end(s, from);
-        pair = run_line(&s[from..end], pair);
-        from = end + 1;
+        pair = run_line(line(s, from), pair);
+        from = next_line(s, from);
     }
 }
 

@@ -10,7 +10,8 @@
 mod case;
 
 use case::run_line;
-use cases::lines::line_end;
+use cases::lines::line;
+use cases::lines::next_line;
 
 // Standard input, at most.
 const ROOM: usize = 262144;
@@ -18,14 +19,18 @@ const ROOM: usize = 262144;
 fn run(s: &[u8]) {
     let mut from = 0;
     while from < s.len() {
-        let end = line_end(s, from);
-        run_line(&s[from..end]);
-        from = end + 1;
+        run_line(line(s, from));
+        from = next_line(s, from);
     }
+}
+
+// Reads standard input, and runs it.
+fn read_and_run(space: &mut [u8]) {
+    let n = io::read_full(libc::STDIN_FILENO, space);
+    run(&space[..n]);
 }
 
 fn main() {
     let mut space = [0u8; ROOM];
-    let n = io::read_full(libc::STDIN_FILENO, &mut space);
-    run(&space[..n]);
+    read_and_run(&mut space);
 }

@@ -4,11 +4,11 @@
 //
 // Standard input is lines, two for a run: the name of its table, and that of its input. Printed of each run: its answers.
 mod feed;
-mod input;
 
-use cases::lines::line_end;
+use cases::files::read_file;
+use cases::lines::line;
+use cases::lines::next_line;
 use feed::feed;
-use input::read_file;
 
 // Standard input, at most; an input, at most; a table with one byte too many.
 const ROOM: usize = 65536;
@@ -30,18 +30,22 @@ fn run_files(table: &[u8], input: &[u8]) {
 fn run(s: &[u8]) {
     let mut from = 0;
     while from < s.len() {
-        let middle = line_end(s, from);
-        if middle == s.len() {
+        let middle = next_line(s, from);
+        if s.len() < middle {
             return;
         }
-        let end = line_end(s, middle + 1);
-        run_files(&s[from..middle], &s[middle + 1..end]);
-        from = end + 1;
+        run_files(line(s, from), line(s, middle));
+        from = next_line(s, middle);
     }
+}
+
+// Reads standard input, and runs it.
+fn read_and_run(space: &mut [u8]) {
+    let n = io::read_full(libc::STDIN_FILENO, space);
+    run(&space[..n]);
 }
 
 fn main() {
     let mut space = [0u8; ROOM];
-    let n = io::read_full(libc::STDIN_FILENO, &mut space);
-    run(&space[..n]);
+    read_and_run(&mut space);
 }

@@ -3,6 +3,9 @@ use crate::input::behind;
 use crate::input::end_of;
 use crate::input::part;
 use crate::print::print_found;
+use cases::lines::line;
+use cases::lines::next_line;
+use cases::parts::rest;
 use table::load::Loaded;
 use table_lookup::lookup::find_domain;
 use table_lookup::lookup::find_path;
@@ -75,7 +78,6 @@ pub(crate) fn run_queries(
     to_domain: &[usize],
     t: Loaded,
 ) -> usize
-    requires { ⌜ length (now s) ≤ 524288 ⌝ }
     requires { ⌜ Kept (now text) (now «to_path») (now «to_domain») t ⌝ }
     ensures { λ r. ⌜ at ≤ r ⌝ }
 {
@@ -85,9 +87,8 @@ pub(crate) fn run_queries(
         if kind == b'T' {
             return from;
         }
-        let end = end_of(s, from, b'\n');
-        run_query(kind, part(s, from + 2, end), text, to_path, to_domain, t);
-        from = end + 1;
+        run_query(kind, rest(line(s, from), 2), text, to_path, to_domain, t);
+        from = next_line(s, from);
     }
     from
 }

@@ -10,8 +10,11 @@ mod input;
 mod lookups;
 mod print;
 
-use input::end_of;
-use input::part;
+use cases::files::read_file;
+use cases::lines::line;
+use cases::lines::next_line;
+use cases::parts::front;
+use cases::parts::rest;
 use lookups::run_queries;
 use print::print_malformed;
 use print::print_rows;
@@ -26,22 +29,8 @@ const ROOM: usize = 524288;
 
 const TABLE_ROOM: usize = 65537;
 
-// Reads the table of a name, which counts as empty where it cannot be opened.
-fn read_table(name: &[u8], buf: &mut [u8]) -> usize
-    ensures { λ r. ⌜ r ≤ length (now (buf .exit)) ⌝ }
-{
-    let fd = os::open_read(name);
-    if fd < 0 {
-        return 0;
-    }
-    let n = io::read_full(fd, buf);
-    libc::close(fd);
-    n
-}
-
 // Loads a table, runs the look-ups from `at` on, and returns where the next table's line starts.
 fn run_loaded(s: &[u8], at: usize, text: &[u8]) -> usize
-    requires { ⌜ length (now s) ≤ 524288 ⌝ }
     ensures { λ r. ⌜ at ≤ r ⌝ }
 {
     let mut to_path = [0usize; ROWS_SIZE];
@@ -58,29 +47,39 @@ fn run_loaded(s: &[u8], at: usize, text: &[u8]) -> usize
     }
 }
 
-// Loads the table that the line at `at` names, runs the look-ups that follow it, and returns where the next table's line starts.
-fn run_table(s: &[u8], at: usize) -> usize
+// Reads the table that the line at `at` names into the room for it, runs the look-ups that follow it, and returns where the next table's line
+// starts.
+fn run_read(s: &[u8], at: usize, space: &mut [u8]) -> usize
     requires { ⌜ at < length (now s) ⌝ }
-    requires { ⌜ length (now s) ≤ 524288 ⌝ }
     ensures { λ r. ⌜ at < r ⌝ }
 {
-    let end = end_of(s, at, b'\n');
-    let mut space = [0u8; TABLE_ROOM];
-    let n = read_table(part(s, at + 2, end), &mut space);
-    run_loaded(s, end + 1, &space[..n])
+    let n = read_file(rest(line(s, at), 2), space);
+    run_loaded(s, next_line(s, at), front(space, n))
 }
 
-fn run(s: &[u8])
-    requires { ⌜ length (now s) ≤ 524288 ⌝ }
+// Runs the table that the line at `at` names, and returns where the next table's line starts.
+fn run_table(s: &[u8], at: usize) -> usize
+    requires { ⌜ at < length (now s) ⌝ }
+    ensures { λ r. ⌜ at < r ⌝ }
 {
+    let mut space = [0u8; TABLE_ROOM];
+    run_read(s, at, &mut space)
+}
+
+fn run(s: &[u8]) {
     let mut at = 0;
     while at < s.len() {
         at = run_table(s, at);
     }
 }
 
+// Reads standard input, and runs it.
+fn read_and_run(space: &mut [u8]) {
+    let n = io::read_full(libc::STDIN_FILENO, space);
+    run(&space[..n]);
+}
+
 fn main() {
     let mut space = [0u8; ROOM];
-    let n = io::read_full(libc::STDIN_FILENO, &mut space);
-    run(&space[..n]);
+    read_and_run(&mut space);
 }

@@ -1,14 +1,7 @@
 // What the program prints.
-use libc::STDOUT_FILENO;
+use cases::print::say;
+use cases::print::say_number;
 use table_lookup::lookup::Found;
-
-pub(crate) fn say(s: &[u8]) {
-    io::write_all(STDOUT_FILENO, s);
-}
-
-fn say_number(n: usize) {
-    io::print_decimal(STDOUT_FILENO, n as u64);
-}
 
 pub(crate) fn print_malformed(line: usize) {
     say(b"7 ");

@@ -11,7 +11,8 @@
 mod print;
 mod settled;
 
-use cases::lines::line_end;
+use cases::lines::line;
+use cases::lines::next_line;
 use cases::print::say;
 use print::print_name;
 use print::print_reading;
@@ -54,14 +55,18 @@ fn run_line(line: &[u8]) {
 fn run(s: &[u8]) {
     let mut from = 0;
     while from < s.len() {
-        let end = line_end(s, from);
-        run_line(&s[from..end]);
-        from = end + 1;
+        run_line(line(s, from));
+        from = next_line(s, from);
     }
+}
+
+// Reads standard input, and runs it.
+fn read_and_run(space: &mut [u8]) {
+    let n = io::read_full(libc::STDIN_FILENO, space);
+    run(&space[..n]);
 }
 
 fn main() {
     let mut space = [0u8; ROOM];
-    let n = io::read_full(libc::STDIN_FILENO, &mut space);
-    run(&space[..n]);
+    read_and_run(&mut space);
 }

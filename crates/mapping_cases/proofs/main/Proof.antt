@@ -1,10 +1,8 @@
--- `mapping_cases::main` is safe: the room is no longer than is required. Its length is had by a law, since an array of this size is too
--- long to be counted by computing.
+-- `mapping_cases::main` is safe. The room's length is had by a law, since an array of this size is too long to be counted by computing.
 -- Assumes nothing.
 use borrow.Author.Needs.{needs}
 use mathlib.Core.Path.{sym}
 use Prim.Native.Nat.{ℕ}
-use native.Mathlib.Nat.{le-of-eq}
 use lib.ListN.{length-replicate}
 use Rattle.mapping_cases.proofs.main.Statement.{statement}
 use Rattle.mapping_cases.proofs.main.Tie as tie
@@ -13,7 +11,7 @@ slice-aggregate-read-and-run : tie.Need-slice-aggregate-read-and-run
 slice-aggregate-read-and-run c = sym (length-replicate {A = ℕ} 2097152 0)
 
 read-and-run-requires : tie.Need-read-and-run-requires
-read-and-run-requires c κs = le-of-eq (length-replicate {A = ℕ} 2097152 0)
+read-and-run-requires c κs = search needs
 
 returns : tie.Need-returns
 returns c = search needs

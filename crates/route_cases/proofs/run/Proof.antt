@@ -1,13 +1,13 @@
--- `route_cases::run` meets its contract.
+-- `route_cases::run` is safe and ends: each line leaves less of the input.
 -- Assumes nothing.
 use borrow.Author.Needs.{needs}
-use Prim.Native.Nat.{_+_, _-_, _≤_}
+use Prim.Native.Nat.{_-_}
 use lib.ListN.{length}
 use Rattle.route_cases.proofs.run.Statement.{statement}
 use Rattle.route_cases.proofs.run.Tie as tie
 
 abbrev Inv-loop : tie.InvT-loop
-Inv-loop s from₀ from = from ≤ length s + 1
+Inv-loop s from₀ from = Unit
 
 abbrev μ-loop : tie.MeasureT-loop
 μ-loop s from₀ from = length s - from
@@ -15,44 +15,23 @@ abbrev μ-loop : tie.MeasureT-loop
 loop-holds : tie.Need-loop-holds Inv-loop μ-loop
 loop-holds c = search needs
 
-line-end-requires : tie.Need-line-end-requires Inv-loop μ-loop
-line-end-requires c κs = search needs
+next-line-requires : tie.Need-next-line-requires Inv-loop μ-loop
+next-line-requires c κs = search needs
 
 returns : tie.Need-returns Inv-loop μ-loop
 returns c = search needs
 
-add-line-end : tie.Need-add-line-end Inv-loop μ-loop
-add-line-end c = search needs
+line-requires : tie.Need-line-requires Inv-loop μ-loop
+line-requires c κs = search needs
 
-line-end-requires-2 : tie.Need-line-end-requires-2 Inv-loop μ-loop
-line-end-requires-2 c κs = search needs
-
-sub-run-files : tie.Need-sub-run-files Inv-loop μ-loop
-sub-run-files c = search needs
-
-part-run-files-start : tie.Need-part-run-files-start Inv-loop μ-loop
-part-run-files-start c = search needs
-
-part-run-files-end : tie.Need-part-run-files-end Inv-loop μ-loop
-part-run-files-end c = search needs
-
-add-run-files : tie.Need-add-run-files Inv-loop μ-loop
-add-run-files c = search needs
-
-sub-run-files-2 : tie.Need-sub-run-files-2 Inv-loop μ-loop
-sub-run-files-2 c = search needs
-
-part-run-files-start-2 : tie.Need-part-run-files-start-2 Inv-loop μ-loop
-part-run-files-start-2 c = search needs
-
-part-run-files-end-2 : tie.Need-part-run-files-end-2 Inv-loop μ-loop
-part-run-files-end-2 c = search needs
+line-requires-2 : tie.Need-line-requires-2 Inv-loop μ-loop
+line-requires-2 c κs = search needs
 
 run-files-requires : tie.Need-run-files-requires Inv-loop μ-loop
 run-files-requires c κs = search needs
 
-add-from : tie.Need-add-from Inv-loop μ-loop
-add-from c = search needs
+next-line-requires-2 : tie.Need-next-line-requires-2 Inv-loop μ-loop
+next-line-requires-2 c κs = search needs
 
 loop-less : tie.Need-loop-less Inv-loop μ-loop
 loop-less c = search needs
@@ -70,19 +49,12 @@ run-spec =
     Inv-loop
     μ-loop
     loop-holds
-    line-end-requires
+    next-line-requires
     returns
-    add-line-end
-    line-end-requires-2
-    sub-run-files
-    part-run-files-start
-    part-run-files-end
-    add-run-files
-    sub-run-files-2
-    part-run-files-start-2
-    part-run-files-end-2
+    line-requires
+    line-requires-2
     run-files-requires
-    add-from
+    next-line-requires-2
     loop-less
     loop-again
     returns-2)

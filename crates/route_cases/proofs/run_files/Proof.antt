@@ -1,19 +1,21 @@
 -- `route_cases::run_files` meets its contract.
 -- Assumes nothing.
 use mathlib.Core.Path.{sym}
+use Prim.Native.Nat.{ℕ}
+use lib.ListN.{length-replicate}
 use lib.Seq.{length-take-le}
 use borrow.Author.Needs.{needs}
 use Rattle.route_cases.proofs.run_files.Statement.{statement}
 use Rattle.route_cases.proofs.run_files.Tie as tie
 
 slice-aggregate-read-file : tie.Need-slice-aggregate-read-file
-slice-aggregate-read-file c = search needs
+slice-aggregate-read-file c = sym (length-replicate {A = ℕ} 65537 0)
 
 read-file-requires : tie.Need-read-file-requires
 read-file-requires c κs = search needs
 
 slice-aggregate-read-file-2 : tie.Need-slice-aggregate-read-file-2
-slice-aggregate-read-file-2 c = search needs
+slice-aggregate-read-file-2 c = sym (length-replicate {A = ℕ} 65536 0)
 
 read-file-requires-2 : tie.Need-read-file-requires-2
 read-file-requires-2 c κs = search needs

@@ -1,13 +1,13 @@
 -- `table_cases::run` is safe and ends: each table leaves less of the input.
 -- Assumes nothing.
 use borrow.Author.Needs.{needs}
-use Prim.Native.Nat.{_≤_, _-_}
+use Prim.Native.Nat.{_-_}
 use lib.ListN.{length}
 use Rattle.table_cases.proofs.run.Statement.{statement}
 use Rattle.table_cases.proofs.run.Tie as tie
 
 abbrev Inv-loop : tie.InvT-loop
-Inv-loop s at₀ at = length s ≤ 524288
+Inv-loop s at₀ at = Unit
 
 abbrev μ-loop : tie.MeasureT-loop
 μ-loop s at₀ at = length s - at

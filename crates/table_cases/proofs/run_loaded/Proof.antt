@@ -33,7 +33,7 @@ run-queries-requires c κs =
     let at = c .before .before .before .before in
     let l = at .before .before .before .before .load in
     let text = at .before .before .before .before .before .before .before .before .before .args .text .now in
-    (search needs, subst (λ (r : TableRead). KeptBy text (l .last .1 .0) (l .last .1 .1 .0) r) (at .t .given .1) (l .ensures .kept))
+    subst (λ (r : TableRead). KeptBy text (l .last .1 .0) (l .last .1 .1 .0) r) (at .t .given .1) (l .ensures .kept)
 
 enum-known-line : tie.Need-enum-known-line
 enum-known-line c = search needs

@@ -1,13 +1,13 @@
 -- `text_cases::run` is safe and ends: each line leaves less of the input.
 -- Assumes nothing.
 use borrow.Author.Needs.{needs}
-use Prim.Native.Nat.{_+_, _-_, _≤_}
+use Prim.Native.Nat.{_-_}
 use lib.ListN.{length}
 use Rattle.text_cases.proofs.run.Statement.{statement}
 use Rattle.text_cases.proofs.run.Tie as tie
 
 abbrev Inv-loop : tie.InvT-loop
-Inv-loop s from₀ from = from ≤ length s + 1
+Inv-loop s from₀ from = Unit
 
 abbrev μ-loop : tie.MeasureT-loop
 μ-loop s from₀ from = length s - from
@@ -15,23 +15,14 @@ abbrev μ-loop : tie.MeasureT-loop
 loop-holds : tie.Need-loop-holds Inv-loop μ-loop
 loop-holds c = search needs
 
-line-end-requires : tie.Need-line-end-requires Inv-loop μ-loop
-line-end-requires c κs = search needs
-
-sub-run-line : tie.Need-sub-run-line Inv-loop μ-loop
-sub-run-line c = search needs
-
-part-run-line-start : tie.Need-part-run-line-start Inv-loop μ-loop
-part-run-line-start c = search needs
-
-part-run-line-end : tie.Need-part-run-line-end Inv-loop μ-loop
-part-run-line-end c = search needs
+line-requires : tie.Need-line-requires Inv-loop μ-loop
+line-requires c κs = search needs
 
 run-line-requires : tie.Need-run-line-requires Inv-loop μ-loop
 run-line-requires c κs = search needs
 
-add-from : tie.Need-add-from Inv-loop μ-loop
-add-from c = search needs
+next-line-requires : tie.Need-next-line-requires Inv-loop μ-loop
+next-line-requires c κs = search needs
 
 loop-less : tie.Need-loop-less Inv-loop μ-loop
 loop-less c = search needs
@@ -49,12 +40,9 @@ run-spec =
     Inv-loop
     μ-loop
     loop-holds
-    line-end-requires
-    sub-run-line
-    part-run-line-start
-    part-run-line-end
+    line-requires
     run-line-requires
-    add-from
+    next-line-requires
     loop-less
     loop-again
     returns)

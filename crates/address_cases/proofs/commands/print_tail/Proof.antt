@@ -13,16 +13,16 @@ use Rattle.address_cases.proofs.commands.print_tail.Tie as tie
 shared-tail-requires : tie.Need-shared-tail-requires
 shared-tail-requires c κs = search needs
 
-sub-say-number : tie.Need-sub-say-number
-sub-say-number c =
+sub-say-count : tie.Need-sub-say-count
+sub-say-count c =
     let a = c .before .before .before .args .a .now in
     let b = c .before .before .before .args .b .now in
     let p = tail-suffix a b in
     let e : length (p .0) + length (sharedTail a b) ≡ length a = sym (length-append (p .0) (sharedTail a b)) ∙ ap length (p .1) in
     omega (arith, ap length (c .shared-tail .ensures))
 
-say-number-requires : tie.Need-say-number-requires
-say-number-requires c κs = search needs
+say-count-requires : tie.Need-say-count-requires
+say-count-requires c κs = search needs
 
 say-requires : tie.Need-say-requires
 say-requires c κs = search needs
@@ -33,4 +33,4 @@ returns c = search needs
 pub print-tail-spec : {M : Type 1} → statement M
 print-tail-spec =
     tie.close
-    (tie.spec shared-tail-requires sub-say-number say-number-requires say-requires returns)
+    (tie.spec shared-tail-requires sub-say-count say-count-requires say-requires returns)

@@ -7,7 +7,7 @@ use Rattle.mapping_cases.proofs.run.run_lines.Statement.{statement}
 use Rattle.mapping_cases.proofs.run.run_lines.Tie as tie
 
 abbrev Inv-loop : tie.InvT-loop
-Inv-loop s at table rec₀ next₀ rec next = (length s ≤ 2097152) × (at ≤ next)
+Inv-loop s at table rec₀ next₀ rec next = at ≤ next
 
 abbrev μ-loop : tie.MeasureT-loop
 μ-loop s at table rec₀ next₀ rec next = length s - next
@@ -24,23 +24,14 @@ shared-slice-read-if1 c = search needs
 returns : tie.Need-returns Inv-loop μ-loop
 returns c = search needs
 
-end-of-requires : tie.Need-end-of-requires Inv-loop μ-loop
-end-of-requires c κs = search needs
-
-sub-run-line : tie.Need-sub-run-line Inv-loop μ-loop
-sub-run-line c = search needs
-
-part-run-line-start : tie.Need-part-run-line-start Inv-loop μ-loop
-part-run-line-start c = search needs
-
-part-run-line-end : tie.Need-part-run-line-end Inv-loop μ-loop
-part-run-line-end c = search needs
+line-requires : tie.Need-line-requires Inv-loop μ-loop
+line-requires c κs = search needs
 
 run-line-requires : tie.Need-run-line-requires Inv-loop μ-loop
 run-line-requires c κs = search needs
 
-add-next : tie.Need-add-next Inv-loop μ-loop
-add-next c = search needs
+next-line-requires : tie.Need-next-line-requires Inv-loop μ-loop
+next-line-requires c κs = search needs
 
 loop-less : tie.Need-loop-less Inv-loop μ-loop
 loop-less c = search needs
@@ -61,12 +52,9 @@ run-lines-spec =
     loop-holds
     shared-slice-read-if1
     returns
-    end-of-requires
-    sub-run-line
-    part-run-line-start
-    part-run-line-end
+    line-requires
     run-line-requires
-    add-next
+    next-line-requires
     loop-less
     loop-again
     returns-2)

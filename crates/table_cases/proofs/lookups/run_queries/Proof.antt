@@ -8,7 +8,7 @@ use Rattle.table_cases.proofs.lookups.run_queries.Statement.{statement}
 use Rattle.table_cases.proofs.lookups.run_queries.Tie as tie
 
 abbrev Inv-loop : tie.InvT-loop
-Inv-loop s at text to-path to-domain t from₀ from = (length s ≤ 524288) × (at ≤ from) × Kept text to-path to-domain t
+Inv-loop s at text to-path to-domain t from₀ from = (at ≤ from) × Kept text to-path to-domain t
 
 abbrev μ-loop : tie.MeasureT-loop
 μ-loop s at text to-path to-domain t from₀ from = length s - from
@@ -22,20 +22,17 @@ shared-slice-read-kind c = search needs
 returns : tie.Need-returns Inv-loop μ-loop
 returns c = search needs
 
-end-of-requires : tie.Need-end-of-requires Inv-loop μ-loop
-end-of-requires c κs = search needs
+line-requires : tie.Need-line-requires Inv-loop μ-loop
+line-requires c κs = search needs
 
-add-part : tie.Need-add-part Inv-loop μ-loop
-add-part c = search needs
-
-part-requires : tie.Need-part-requires Inv-loop μ-loop
-part-requires c κs = search needs
+rest-requires : tie.Need-rest-requires Inv-loop μ-loop
+rest-requires c κs = search needs
 
 run-query-requires : tie.Need-run-query-requires Inv-loop μ-loop
 run-query-requires c κs = search needs
 
-add-from : tie.Need-add-from Inv-loop μ-loop
-add-from c = search needs
+next-line-requires : tie.Need-next-line-requires Inv-loop μ-loop
+next-line-requires c κs = search needs
 
 loop-less : tie.Need-loop-less Inv-loop μ-loop
 loop-less c = search needs
@@ -55,11 +52,10 @@ run-queries-spec =
     loop-holds
     shared-slice-read-kind
     returns
-    end-of-requires
-    add-part
-    part-requires
+    line-requires
+    rest-requires
     run-query-requires
-    add-from
+    next-line-requires
     loop-less
     loop-again
     returns-2)

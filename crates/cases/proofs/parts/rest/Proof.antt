@@ -1,4 +1,4 @@
--- `mapping_cases::input::from` meets its contract: nothing where the place is past the end.
+-- `cases::parts::rest` meets its contract: nothing where the place is past the end.
 -- Assumes nothing.
 use mathlib.Core.Path.{sym}
 use Prim.Native.Nat.{_-_}
@@ -6,8 +6,8 @@ use native.Mathlib.Omega.{arith}
 use lib.ListN.{drop, drop-of-length-le, length, length-drop}
 use lib.Seq.{take-all}
 use borrow.Author.Needs.{needs}
-use Rattle.mapping_cases.proofs.input.from.Statement.{statement}
-use Rattle.mapping_cases.proofs.input.from.Tie as tie
+use Rattle.cases.proofs.parts.rest.Statement.{statement}
+use Rattle.cases.proofs.parts.rest.Tie as tie
 
 sub-result : tie.Need-sub-result
 sub-result c = search needs
@@ -36,8 +36,8 @@ returns-2 c =
     let s = a .s .now in
     take-all (length s - a .at) (drop (a .at) s) (omega (arith, length-drop (a .at) s))
 
-pub from-spec : {M : Type 1} → statement M
-from-spec =
+pub rest-spec : {M : Type 1} → statement M
+rest-spec =
     tie.close
     (tie.spec
     sub-result

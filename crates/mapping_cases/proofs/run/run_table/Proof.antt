@@ -1,0 +1,20 @@
+-- `mapping_cases::run::run_table` is safe. The room's length is had by a law, since an array of this size is too long to be counted by computing.
+-- Assumes nothing.
+use borrow.Author.Needs.{needs}
+use mathlib.Core.Path.{sym}
+use Prim.Native.Nat.{ℕ}
+use lib.ListN.{length-replicate}
+use Rattle.mapping_cases.proofs.run.run_table.Statement.{statement}
+use Rattle.mapping_cases.proofs.run.run_table.Tie as tie
+
+slice-aggregate-run-read : tie.Need-slice-aggregate-run-read
+slice-aggregate-run-read c = sym (length-replicate {A = ℕ} 65537 0)
+
+run-read-requires : tie.Need-run-read-requires
+run-read-requires c κs = search needs
+
+returns : tie.Need-returns
+returns c = search needs
+
+pub run-table-spec : {M : Type 1} → statement M
+run-table-spec = tie.close (tie.spec slice-aggregate-run-read run-read-requires returns)

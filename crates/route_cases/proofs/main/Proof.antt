@@ -1,0 +1,20 @@
+-- `route_cases::main` is safe. The room's length is had by a law, since an array of this size is too long to be counted by computing.
+-- Assumes nothing.
+use borrow.Author.Needs.{needs}
+use mathlib.Core.Path.{sym}
+use Prim.Native.Nat.{ℕ}
+use lib.ListN.{length-replicate}
+use Rattle.route_cases.proofs.main.Statement.{statement}
+use Rattle.route_cases.proofs.main.Tie as tie
+
+slice-aggregate-read-and-run : tie.Need-slice-aggregate-read-and-run
+slice-aggregate-read-and-run c = sym (length-replicate {A = ℕ} 65536 0)
+
+read-and-run-requires : tie.Need-read-and-run-requires
+read-and-run-requires c κs = search needs
+
+returns : tie.Need-returns
+returns c = search needs
+
+pub main-spec : {M : Type 1} → statement M
+main-spec = tie.close (tie.spec slice-aggregate-read-and-run read-and-run-requires returns)
