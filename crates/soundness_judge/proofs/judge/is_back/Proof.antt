@@ -21,8 +21,8 @@ map-address-requires c κs = search needs
 enum-told : tie.Need-enum-told
 enum-told c = search needs
 
-same-requires : tie.Need-same-requires
-same-requires c κs = search needs
+same-record-requires : tie.Need-same-record-requires
+same-record-requires c κs = search needs
 
 enum-told-2 : tie.Need-enum-told-2
 enum-told-2 c = search needs
@@ -51,7 +51,7 @@ unfolding backBy
 returns c =
     let at = c .before .before .before .before in
     let a = at .before .before .before .before .before .args in
-    c .same .ensures
+    c .same-record .ensures
     ∙ back-done (tableAt (a .text .now) (a .to-path .now) (a .to-domain .now) (a .table)) (a .s .now) (a .rec) (at .map-address .result) (told at) (c .before .enum-told .given .1)
 
 -- the answer is another than Done
@@ -85,7 +85,7 @@ is-back-spec =
     (tie.spec
     map-address-requires
     enum-told
-    same-requires
+    same-record-requires
     enum-told-2
     enum-told-3
     enum-told-4

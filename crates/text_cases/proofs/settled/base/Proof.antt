@@ -1,8 +1,10 @@
 -- `text_cases::settled::base` is safe and ends: the loop counts up to the number of levels, and no turn adds a DD.
 -- Assumes nothing.
 use borrow.Author.Needs.{needs}
-use mathlib.Core.Path.{_≡_}
+use mathlib.Core.Path.{_≡_, ap}
 use Prim.Native.Nat.{_-_}
+use Rattle.oraddr.specs.View.{emptyRecord}
+use Rattle.oraddr.specs.declared.record.Record.{Record}
 use Rattle.text_cases.proofs.settled.base.Statement.{statement}
 use Rattle.text_cases.proofs.settled.base.Tie as tie
 
@@ -15,8 +17,12 @@ abbrev μ-loop : tie.MeasureT-loop
 filled-requires : tie.Need-filled-requires Inv-loop μ-loop
 filled-requires c κs = search needs
 
+empty-requires : tie.Need-empty-requires Inv-loop μ-loop
+empty-requires c κs = search needs
+
 loop-holds : tie.Need-loop-holds Inv-loop μ-loop
-loop-holds c = search needs
+unfolding emptyRecord
+loop-holds c = ap (λ (r : Record). r .dds .count) (c .empty .ensures)
 
 with-level-requires : tie.Need-with-level-requires Inv-loop μ-loop
 with-level-requires c κs = search needs
@@ -40,6 +46,7 @@ base-spec =
     Inv-loop
     μ-loop
     filled-requires
+    empty-requires
     loop-holds
     with-level-requires
     add-k
