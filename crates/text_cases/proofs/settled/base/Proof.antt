@@ -3,7 +3,7 @@
 use borrow.Author.Needs.{needs}
 use mathlib.Core.Path.{_≡_, ap}
 use Prim.Native.Nat.{_-_}
-use Rattle.oraddr.specs.View.{emptyRecord}
+use Rattle.oraddr.specs.View.{domainDefinedOf, orgUnitOf, valueOf}
 use Rattle.oraddr.specs.declared.record.Record.{Record}
 use Rattle.text_cases.proofs.settled.base.Statement.{statement}
 use Rattle.text_cases.proofs.settled.base.Tie as tie
@@ -21,7 +21,7 @@ empty-requires : tie.Need-empty-requires Inv-loop μ-loop
 empty-requires c κs = search needs
 
 loop-holds : tie.Need-loop-holds Inv-loop μ-loop
-unfolding emptyRecord
+unfolding valueOf orgUnitOf domainDefinedOf
 loop-holds c = ap (λ (r : Record). r .dds .count) (c .empty .ensures)
 
 with-level-requires : tie.Need-with-level-requires Inv-loop μ-loop
