@@ -10,11 +10,8 @@ use Rattle.check_cases.proofs.run_table.Tie as tie
 slice-aggregate-run-read : tie.Need-slice-aggregate-run-read
 slice-aggregate-run-read c = sym (length-replicate {A = ℕ} 65537 0)
 
-run-read-requires : tie.Need-run-read-requires
-run-read-requires c κs = search needs
-
 returns : tie.Need-returns
 returns c = search needs
 
 pub run-table-spec : {M : Type 1} → statement M
-run-table-spec = tie.close (tie.spec slice-aggregate-run-read run-read-requires returns)
+run-table-spec = tie.close (tie.spec slice-aggregate-run-read (λ c κs. search needs) returns)

@@ -10,11 +10,8 @@ use Rattle.date_cases.proofs.main.Tie as tie
 slice-aggregate-read-and-run : tie.Need-slice-aggregate-read-and-run
 slice-aggregate-read-and-run c = sym (length-replicate {A = ℕ} 262144 0)
 
-read-and-run-requires : tie.Need-read-and-run-requires
-read-and-run-requires c κs = search needs
-
 returns : tie.Need-returns
 returns c = search needs
 
 pub main-spec : {M : Type 1} → statement M
-main-spec = tie.close (tie.spec slice-aggregate-read-and-run read-and-run-requires returns)
+main-spec = tie.close (tie.spec slice-aggregate-read-and-run (λ c κs. search needs) returns)

@@ -7,15 +7,6 @@ use borrow.Author.Needs.{needs}
 use Rattle.gateway_dates.proofs.packed_date_to_822.Statement.{statement}
 use Rattle.gateway_dates.proofs.packed_date_to_822.Tie as tie
 
-date-to-822-requires : tie.Need-date-to-822-requires
-date-to-822-requires c κs = search needs
-
-pack-date-requires : tie.Need-pack-date-requires
-pack-date-requires c κs = search needs
-
-same-length : tie.Need-same-length
-same-length c = search needs
-
 returns : tie.Need-returns
 returns c =
     let w = c .before .before .before in
@@ -23,4 +14,4 @@ returns c =
     exported-text (utcToDate (a .utc .now) (a .out .now)) (told (w .date-to-822 .result) (w .date-to-822 .last .1 .0)) (c .pack-date .result) (w .date-to-822 .ensures) (c .pack-date .ensures)
 
 pub packed-date-to-822-spec : {M : Type 1} → statement M
-packed-date-to-822-spec = tie.close (tie.spec date-to-822-requires pack-date-requires same-length returns)
+packed-date-to-822-spec = tie.close (tie.spec (λ c κs. search needs) (λ c κs. search needs) (λ c. search needs) returns)

@@ -7,15 +7,6 @@ use borrow.Author.Needs.{needs}
 use Rattle.gateway_dates.proofs.packed_date_to_x400.Statement.{statement}
 use Rattle.gateway_dates.proofs.packed_date_to_x400.Tie as tie
 
-date-to-x400-requires : tie.Need-date-to-x400-requires
-date-to-x400-requires c κs = search needs
-
-pack-date-requires : tie.Need-pack-date-requires
-pack-date-requires c κs = search needs
-
-same-length : tie.Need-same-length
-same-length c = search needs
-
 returns : tie.Need-returns
 returns c =
     let w = c .before .before .before in
@@ -23,4 +14,4 @@ returns c =
     exported-text (dateToUtc (a .date .now) (a .out .now)) (told (w .date-to-x400 .result) (w .date-to-x400 .last .1 .0)) (c .pack-date .result) (w .date-to-x400 .ensures) (c .pack-date .ensures)
 
 pub packed-date-to-x400-spec : {M : Type 1} → statement M
-packed-date-to-x400-spec = tie.close (tie.spec date-to-x400-requires pack-date-requires same-length returns)
+packed-date-to-x400-spec = tie.close (tie.spec (λ c κs. search needs) (λ c κs. search needs) (λ c. search needs) returns)

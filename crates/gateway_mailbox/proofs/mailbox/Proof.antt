@@ -41,14 +41,5 @@ returns c =
     shows (a .line) _ (a .out .now) (w .read-mailbox .last .1 .0) (w .read-mailbox .result) (c .before .before .before .mailbox-number .result) (w .read-mailbox .ensures) (c .before .before .before .mailbox-number .ensures) refl refl refl
 
 pub mailbox-spec : {M : Type 1} → statement M
-mailbox-spec =
-    tie.close
-    (tie.spec
-    read-mailbox-requires
-    mailbox-number-requires
-    add-end
-    sub-result
-    part-result-start
-    part-result-end
-    same-length
+mailbox-spec = tie.close (tie.spec read-mailbox-requires mailbox-number-requires add-end sub-result part-result-start part-result-end same-length
     returns)

@@ -6,9 +6,6 @@ use borrow.Author.Needs.{needs}
 use Rattle.gateway_mailbox.proofs.pack_mailbox.Statement.{statement}
 use Rattle.gateway_mailbox.proofs.pack_mailbox.Tie as tie
 
-mailbox-number-requires : tie.Need-mailbox-number-requires
-mailbox-number-requires c κs = search needs
-
 pack-text-requires : tie.Need-pack-text-requires
 pack-text-requires c κs = omega (arith, mailbox-small (c .before .args .done .answer))
 
@@ -16,4 +13,4 @@ returns : tie.Need-returns
 returns c = search needs
 
 pub pack-mailbox-spec : {M : Type 1} → statement M
-pack-mailbox-spec = tie.close (tie.spec mailbox-number-requires pack-text-requires returns)
+pack-mailbox-spec = tie.close (tie.spec (λ c κs. search needs) pack-text-requires returns)

@@ -8,15 +8,6 @@ use borrow.Author.Needs.{needs}
 use Rattle.gateway_mailbox.proofs.packed_mailbox.Statement.{statement}
 use Rattle.gateway_mailbox.proofs.packed_mailbox.Tie as tie
 
-read-mailbox-requires : tie.Need-read-mailbox-requires
-read-mailbox-requires c κs = search needs
-
-pack-mailbox-requires : tie.Need-pack-mailbox-requires
-pack-mailbox-requires c κs = search needs
-
-same-length : tie.Need-same-length
-same-length c = search needs
-
 returns : tie.Need-returns
 returns c =
     let w = c .before .before .before in
@@ -25,4 +16,4 @@ returns c =
     (ap (λ (o : MailboxResult). o .text) (w .read-mailbox .ensures)) (c .pack-mailbox .ensures)
 
 pub packed-mailbox-spec : {M : Type 1} → statement M
-packed-mailbox-spec = tie.close (tie.spec read-mailbox-requires pack-mailbox-requires same-length returns)
+packed-mailbox-spec = tie.close (tie.spec (λ c κs. search needs) (λ c κs. search needs) (λ c. search needs) returns)

@@ -7,15 +7,6 @@ use borrow.Author.Needs.{needs}
 use Rattle.gateway_restricted.proofs.packed_restrict.Statement.{statement}
 use Rattle.gateway_restricted.proofs.packed_restrict.Tie as tie
 
-restrict-requires : tie.Need-restrict-requires
-restrict-requires c κs = search needs
-
-pack-restricted-requires : tie.Need-pack-restricted-requires
-pack-restricted-requires c κs = search needs
-
-same-length : tie.Need-same-length
-same-length c = search needs
-
 returns : tie.Need-returns
 returns c =
     let w = c .before .before .before in
@@ -23,4 +14,4 @@ returns c =
     exported-text (restrictText (a .text .now) (a .out .now)) (told (w .restrict .result) (w .restrict .last .1 .0)) (c .pack-restricted .result) (w .restrict .ensures) (c .pack-restricted .ensures)
 
 pub packed-restrict-spec : {M : Type 1} → statement M
-packed-restrict-spec = tie.close (tie.spec restrict-requires pack-restricted-requires same-length returns)
+packed-restrict-spec = tie.close (tie.spec (λ c κs. search needs) (λ c κs. search needs) (λ c. search needs) returns)

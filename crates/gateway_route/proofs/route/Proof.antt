@@ -35,14 +35,5 @@ returns c =
     subst (λ (l : TableOutcome). Routing l (a .over) (a .input .now) (a .last) (a .out .now) (r .result) (r .last .1 .1 .1 .1 .1 .1 .1 .0)) (c .before .before .before .before .before .before .before .before .open .ensures .answers) (r .ensures)
 
 pub route-spec : {M : Type 1} → statement M
-route-spec =
-    tie.close
-    (tie.spec
-    slice-aggregate-open
-    slice-aggregate-open-2
-    open-requires
-    slice-aggregate-route
-    slice-aggregate-route-2
-    route-requires
-    same-length
-    returns)
+route-spec = tie.close (tie.spec slice-aggregate-open slice-aggregate-open-2 open-requires slice-aggregate-route slice-aggregate-route-2
+    route-requires same-length returns)

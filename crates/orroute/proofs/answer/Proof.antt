@@ -20,25 +20,10 @@ Inv-loop text to-path to-domain read input₀ over size last out₀ over₀ size
 abbrev μ-loop : tie.MeasureT-loop
 μ-loop text to-path to-domain read input₀ over size last out₀ over₀ size₀ t15 input out over' size' = size'
 
-loop-holds : tie.Need-loop-holds Inv-loop μ-loop
-loop-holds c = search needs
-
-slice-reshare-prefix-route : tie.Need-slice-reshare-prefix-route Inv-loop μ-loop
-slice-reshare-prefix-route c = search needs
-
 slice-aggregate-route : tie.Need-slice-aggregate-route Inv-loop μ-loop
 slice-aggregate-route c =
     let l = c .before .before .loop in
     sym (length-take-le (l .size) (l .input) (l .inv .2))
-
-route-requires : tie.Need-route-requires Inv-loop μ-loop
-route-requires c κs = search needs
-
-same-length : tie.Need-same-length Inv-loop μ-loop
-same-length c = search needs
-
-same-length-2 : tie.Need-same-length-2 Inv-loop μ-loop
-same-length-2 c = search needs
 
 returns : tie.Need-returns Inv-loop μ-loop
 returns c =
@@ -48,28 +33,10 @@ returns c =
     let w = call-moves (ready-formed (a .text .now) (a .to-path .now) (a .to-domain .now) (a .read) (start .pre .0)) (c .before .before .before .route .ensures) (omega (arith, l .inv .1, start .pre .1 .1)) (c .if1 .taken) in
     omega (arith, w .short, length-take-le (l .size) (l .input) (l .inv .2))
 
-slice-reshare-prefix-write-out : tie.Need-slice-reshare-prefix-write-out Inv-loop μ-loop
-slice-reshare-prefix-write-out c = search needs
-
 slice-aggregate-write-out : tie.Need-slice-aggregate-write-out Inv-loop μ-loop
 slice-aggregate-write-out c =
     let r = c .before .before .before .before .route in
     sym (length-take-le (r .result .written) (r .last .1 .1 .1 .1 .1 .1 .1 .0) (omega (arith, r .ensures .went .room, wrote-length (r .ensures .went .wrote))))
-
-write-out-requires : tie.Need-write-out-requires Inv-loop μ-loop
-write-out-requires c κs = search needs
-
-slice-aggregate-fail : tie.Need-slice-aggregate-fail Inv-loop μ-loop
-slice-aggregate-fail c = search needs
-
-fail-requires : tie.Need-fail-requires Inv-loop μ-loop
-fail-requires c κs = search needs
-
-same-length-3 : tie.Need-same-length-3 Inv-loop μ-loop
-same-length-3 c = search needs
-
-same-length-4 : tie.Need-same-length-4 Inv-loop μ-loop
-same-length-4 c = search needs
 
 returns-2 : tie.Need-returns-2 Inv-loop μ-loop
 returns-2 c = omega (arith, ap (λ (w : Waiting). w .size) (c .fail .ensures))
@@ -84,46 +51,14 @@ shift-requires c κs =
     let l = c .before .before .before .before .before .before .before .before .before .before .before .loop in
     omega (arith, c .before .before .before .before .before .before .before .route .ensures .went .within, length-take-le (l .size) (l .input) (l .inv .2), l .inv .2)
 
-loop-less : tie.Need-loop-less Inv-loop μ-loop
-loop-less c = search needs
-
 loop-again : tie.Need-loop-again Inv-loop μ-loop
 loop-again c = search needs
-
-same-length-5 : tie.Need-same-length-5 Inv-loop μ-loop
-same-length-5 c = search needs
-
-same-length-6 : tie.Need-same-length-6 Inv-loop μ-loop
-same-length-6 c = search needs
 
 returns-3 : tie.Need-returns-3 Inv-loop μ-loop
 returns-3 c = search needs
 
 pub answer-spec : {M : Type 1} → statement M
-answer-spec =
-    tie.close
-    (tie.spec
-    Inv-loop
-    μ-loop
-    loop-holds
-    slice-reshare-prefix-route
-    slice-aggregate-route
-    route-requires
-    same-length
-    same-length-2
-    returns
-    slice-reshare-prefix-write-out
-    slice-aggregate-write-out
-    write-out-requires
-    slice-aggregate-fail
-    fail-requires
-    same-length-3
-    same-length-4
-    returns-2
-    sub-size
-    shift-requires
-    loop-less
-    loop-again
-    same-length-5
-    same-length-6
-    returns-3)
+answer-spec = tie.close (tie.spec Inv-loop μ-loop (λ c. search needs) (λ c. search needs) slice-aggregate-route (λ c κs. search needs)
+    (λ c. search needs) (λ c. search needs) returns (λ c. search needs) slice-aggregate-write-out (λ c κs. search needs) (λ c. search needs)
+    (λ c κs. search needs) (λ c. search needs) (λ c. search needs) returns-2 sub-size shift-requires (λ c. search needs) loop-again
+    (λ c. search needs) (λ c. search needs) returns-3)

@@ -14,15 +14,6 @@ Inv-loop text to-path to-domain read input₀ out₀ over₀ size₀ turns₀ in
 abbrev μ-loop : tie.MeasureT-loop
 μ-loop text to-path to-domain read input₀ out₀ over₀ size₀ turns₀ input out over size turns = turns
 
-loop-holds : tie.Need-loop-holds Inv-loop μ-loop
-loop-holds c = search needs
-
-slice-aggregate-step : tie.Need-slice-aggregate-step Inv-loop μ-loop
-slice-aggregate-step c = search needs
-
-slice-aggregate-step-2 : tie.Need-slice-aggregate-step-2 Inv-loop μ-loop
-slice-aggregate-step-2 c = search needs
-
 step-requires : tie.Need-step-requires Inv-loop μ-loop
 step-requires c κs =
     let l = c .before .before .before .loop in
@@ -32,12 +23,6 @@ step-requires c κs =
 returns : tie.Need-returns Inv-loop μ-loop
 returns c = search needs
 
-sub-turns : tie.Need-sub-turns Inv-loop μ-loop
-sub-turns c = search needs
-
-loop-less : tie.Need-loop-less Inv-loop μ-loop
-loop-less c = search needs
-
 loop-again : tie.Need-loop-again Inv-loop μ-loop
 loop-again c = search needs
 
@@ -45,17 +30,5 @@ returns-2 : tie.Need-returns-2 Inv-loop μ-loop
 returns-2 c = search needs
 
 pub run-spec : {M : Type 1} → statement M
-run-spec =
-    tie.close
-    (tie.spec
-    Inv-loop
-    μ-loop
-    loop-holds
-    slice-aggregate-step
-    slice-aggregate-step-2
-    step-requires
-    returns
-    sub-turns
-    loop-less
-    loop-again
-    returns-2)
+run-spec = tie.close (tie.spec Inv-loop μ-loop (λ c. search needs) (λ c. search needs) (λ c. search needs) step-requires returns (λ c. search needs)
+    (λ c. search needs) loop-again returns-2)

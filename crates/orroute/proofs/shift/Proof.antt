@@ -22,9 +22,6 @@ loop-holds c =
     let a = c .args in
     (omega arith, paste-zero (a .buf .now) 0 (drop (a .from) (a .buf .now)))
 
-add-buf : tie.Need-add-buf Inv-loop μ-loop
-add-buf c = search needs
-
 slice-read-buf : tie.Need-slice-read-buf Inv-loop μ-loop
 slice-read-buf c =
     let l = c .before .before .loop in
@@ -36,12 +33,6 @@ slice-write-buf c =
     let l = c .before .before .loop in
     let s = c .before .before .before in
     omega (arith, ap length (l .inv .1), moved-length (s .args .buf .now) (s .args .from) (s .args .n) (l .i) (s .pre) (l .inv .0), s .pre)
-
-add-i : tie.Need-add-i Inv-loop μ-loop
-add-i c = search needs
-
-loop-less : tie.Need-loop-less Inv-loop μ-loop
-loop-less c = search needs
 
 loop-again : tie.Need-loop-again Inv-loop μ-loop
 loop-again c =
@@ -64,17 +55,5 @@ returns c =
     l .inv .1 ∙ ap (paste (a .buf .now) 0 (drop (a .from) (a .buf .now))) e
 
 pub shift-spec : {M : Type 1} → statement M
-shift-spec =
-    tie.close
-    (tie.spec
-    Inv-loop
-    μ-loop
-    loop-holds
-    add-buf
-    slice-read-buf
-    slice-write-buf
-    add-i
-    loop-less
-    loop-again
-    same-length
-    returns)
+shift-spec = tie.close (tie.spec Inv-loop μ-loop loop-holds (λ c. search needs) slice-read-buf slice-write-buf (λ c. search needs) (λ c. search needs)
+    loop-again same-length returns)

@@ -11,21 +11,6 @@ use borrow.Author.Needs.{needs}
 use Rattle.orroute.proofs.step.Statement.{statement}
 use Rattle.orroute.proofs.step.Tie as tie
 
-sub-read-some : tie.Need-sub-read-some
-sub-read-some c = search needs
-
-part-read-some-start : tie.Need-part-read-some-start
-part-read-some-start c = search needs
-
-part-read-some-end : tie.Need-part-read-some-end
-part-read-some-end c = search needs
-
-read-some-requires : tie.Need-read-some-requires
-read-some-requires c κs = search needs
-
-enum-known-n : tie.Need-enum-known-n
-enum-known-n c = search needs
-
 -- what came fits behind what waited
 fits : (c : tie.After-n) → let a = c .before .before .before .before .before .before .before .before .before .before .before .args in a .size + c .n .given .0 .0 ≤ length (a .input .now)
 fits c =
@@ -47,46 +32,13 @@ answer-requires c κs =
     let same = same-len-mid (a .size) (length (a .input .now) - a .size) (a .input .now) (r .last .1 .0) (r .kept .1 .0) in
     (start .pre .0, (omega (arith, fits n, same), start .pre .1 .1 .1))
 
-enum-told : tie.Need-enum-told
-enum-told c = search needs
-
-slice-aggregate-fail : tie.Need-slice-aggregate-fail
-slice-aggregate-fail c = search needs
-
-fail-requires : tie.Need-fail-requires
-fail-requires c κs = search needs
-
-same-length : tie.Need-same-length
-same-length c = search needs
-
-same-length-2 : tie.Need-same-length-2
-same-length-2 c = search needs
-
 returns : tie.Need-returns
 returns c = search needs
-
-same-length-3 : tie.Need-same-length-3
-same-length-3 c = search needs
 
 returns-2 : tie.Need-returns-2
 returns-2 c = omega (arith, ap (λ (w : Waiting). w .size) (c .fail .ensures))
 
 pub step-spec : {M : Type 1} → statement M
-step-spec =
-    tie.close
-    (tie.spec
-    sub-read-some
-    part-read-some-start
-    part-read-some-end
-    read-some-requires
-    enum-known-n
-    add-answer
-    answer-requires
-    enum-told
-    slice-aggregate-fail
-    fail-requires
-    same-length
-    same-length-2
-    returns
-    same-length-3
+step-spec = tie.close (tie.spec (λ c. search needs) (λ c. search needs) (λ c. search needs) (λ c κs. search needs) (λ c. search needs) add-answer
+    answer-requires (λ c. search needs) (λ c. search needs) (λ c κs. search needs) (λ c. search needs) (λ c. search needs) returns (λ c. search needs)
     returns-2)

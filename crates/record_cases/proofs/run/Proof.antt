@@ -12,24 +12,6 @@ Inv-loop s pair₀ from₀ pair from = Unit
 abbrev μ-loop : tie.MeasureT-loop
 μ-loop s pair₀ from₀ pair from = length s - from
 
-empty-pair-requires : tie.Need-empty-pair-requires Inv-loop μ-loop
-empty-pair-requires c κs = search needs
-
-loop-holds : tie.Need-loop-holds Inv-loop μ-loop
-loop-holds c = search needs
-
-line-requires : tie.Need-line-requires Inv-loop μ-loop
-line-requires c κs = search needs
-
-run-line-requires : tie.Need-run-line-requires Inv-loop μ-loop
-run-line-requires c κs = search needs
-
-next-line-requires : tie.Need-next-line-requires Inv-loop μ-loop
-next-line-requires c κs = search needs
-
-loop-less : tie.Need-loop-less Inv-loop μ-loop
-loop-less c = search needs
-
 loop-again : tie.Need-loop-again Inv-loop μ-loop
 loop-again c = search needs
 
@@ -37,16 +19,5 @@ returns : tie.Need-returns Inv-loop μ-loop
 returns c = search needs
 
 pub run-spec : {M : Type 1} → statement M
-run-spec =
-    tie.close
-    (tie.spec
-    Inv-loop
-    μ-loop
-    empty-pair-requires
-    loop-holds
-    line-requires
-    run-line-requires
-    next-line-requires
-    loop-less
-    loop-again
-    returns)
+run-spec = tie.close (tie.spec Inv-loop μ-loop (λ c κs. search needs) (λ c. search needs) (λ c κs. search needs) (λ c κs. search needs)
+    (λ c κs. search needs) (λ c. search needs) loop-again returns)

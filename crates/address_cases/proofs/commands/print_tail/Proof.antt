@@ -10,9 +10,6 @@ use Rattle.mailaddr.proofs.Laws.Tail.{tail-suffix}
 use Rattle.address_cases.proofs.commands.print_tail.Statement.{statement}
 use Rattle.address_cases.proofs.commands.print_tail.Tie as tie
 
-shared-tail-requires : tie.Need-shared-tail-requires
-shared-tail-requires c κs = search needs
-
 sub-say-count : tie.Need-sub-say-count
 sub-say-count c =
     let a = c .before .before .before .args .a .now in
@@ -21,16 +18,10 @@ sub-say-count c =
     let e : length (p .0) + length (sharedTail a b) ≡ length a = sym (length-append (p .0) (sharedTail a b)) ∙ ap length (p .1) in
     omega (arith, ap length (c .shared-tail .ensures))
 
-say-count-requires : tie.Need-say-count-requires
-say-count-requires c κs = search needs
-
-say-requires : tie.Need-say-requires
-say-requires c κs = search needs
-
 returns : tie.Need-returns
 returns c = search needs
 
 pub print-tail-spec : {M : Type 1} → statement M
 print-tail-spec =
     tie.close
-    (tie.spec shared-tail-requires sub-say-count say-count-requires say-requires returns)
+    (tie.spec (λ c κs. search needs) sub-say-count (λ c κs. search needs) (λ c κs. search needs) returns)

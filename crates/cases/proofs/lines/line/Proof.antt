@@ -9,18 +9,6 @@ use Rattle.chars.specs.Parts.{run}
 use Rattle.cases.proofs.lines.line.Statement.{statement}
 use Rattle.cases.proofs.lines.line.Tie as tie
 
-line-end-requires : tie.Need-line-end-requires
-line-end-requires c κs = search needs
-
-sub-result : tie.Need-sub-result
-sub-result c = search needs
-
-part-result-start : tie.Need-part-result-start
-part-result-start c = search needs
-
-part-result-end : tie.Need-part-result-end
-part-result-end c = search needs
-
 returns : tie.Need-returns
 returns c =
     let a = c .before .before .before .args in
@@ -29,4 +17,4 @@ returns c =
     ap (λ (k : ℕ). take k (drop (a .from) s)) e
 
 pub line-spec : {M : Type 1} → statement M
-line-spec = tie.close (tie.spec line-end-requires sub-result part-result-start part-result-end returns)
+line-spec = tie.close (tie.spec (λ c κs. search needs) (λ c. search needs) (λ c. search needs) (λ c. search needs) returns)

@@ -7,9 +7,6 @@ use Rattle.chars.proofs.Laws.Parts.{run-le}
 use Rattle.cases.proofs.lines.line_end.Statement.{statement}
 use Rattle.cases.proofs.lines.line_end.Tie as tie
 
-part-end-requires : tie.Need-part-end-requires
-part-end-requires c κs = search needs
-
 returns : tie.Need-returns
 returns c =
     let a = c .before .before .args in
@@ -20,4 +17,4 @@ returns c =
     }
 
 pub line-end-spec : {M : Type 1} → statement M
-line-end-spec = tie.close (tie.spec part-end-requires returns)
+line-end-spec = tie.close (tie.spec (λ c κs. search needs) returns)

@@ -5,16 +5,10 @@ use borrow.Author.Needs.{needs}
 use Rattle.cases.proofs.lines.next_line.Statement.{statement}
 use Rattle.cases.proofs.lines.next_line.Tie as tie
 
-line-end-requires : tie.Need-line-end-requires
-line-end-requires c κs = search needs
-
-add-result : tie.Need-add-result
-add-result c = search needs
-
 returns : tie.Need-returns
 returns c =
     let r = c .line-end .ensures in
     record { starts = omega (arith, r .ends); after = omega (arith, r .after); within = omega (arith, r .within) }
 
 pub next-line-spec : {M : Type 1} → statement M
-next-line-spec = tie.close (tie.spec line-end-requires add-result returns)
+next-line-spec = tie.close (tie.spec (λ c κs. search needs) (λ c. search needs) returns)

@@ -9,12 +9,6 @@ use Rattle.chars.specs.Parts.{run}
 use Rattle.cases.proofs.parts.first_field.Statement.{statement}
 use Rattle.cases.proofs.parts.first_field.Tie as tie
 
-part-end-requires : tie.Need-part-end-requires
-part-end-requires c κs = search needs
-
-front-requires : tie.Need-front-requires
-front-requires c κs = search needs
-
 returns : tie.Need-returns
 returns c =
     let s = c .before .before .before .args .s .now in
@@ -22,4 +16,4 @@ returns c =
     c .front .ensures ∙ ap (λ (k : ℕ). take k s) e
 
 pub first-field-spec : {M : Type 1} → statement M
-first-field-spec = tie.close (tie.spec part-end-requires front-requires returns)
+first-field-spec = tie.close (tie.spec (λ c κs. search needs) (λ c κs. search needs) returns)

@@ -9,26 +9,8 @@ use borrow.Author.Needs.{needs}
 use Rattle.cases.proofs.parts.rest.Statement.{statement}
 use Rattle.cases.proofs.parts.rest.Tie as tie
 
-sub-result : tie.Need-sub-result
-sub-result c = search needs
-
-part-result-start : tie.Need-part-result-start
-part-result-start c = search needs
-
-part-result-end : tie.Need-part-result-end
-part-result-end c = search needs
-
 returns : tie.Need-returns
 returns c = sym (drop-of-length-le (c .before .before .args .s .now) {i = c .before .before .args .at} (omega arith))
-
-sub-result-2 : tie.Need-sub-result-2
-sub-result-2 c = search needs
-
-part-result-start-2 : tie.Need-part-result-start-2
-part-result-start-2 c = search needs
-
-part-result-end-2 : tie.Need-part-result-end-2
-part-result-end-2 c = search needs
 
 returns-2 : tie.Need-returns-2
 returns-2 c =
@@ -37,14 +19,5 @@ returns-2 c =
     take-all (length s - a .at) (drop (a .at) s) (omega (arith, length-drop (a .at) s))
 
 pub rest-spec : {M : Type 1} → statement M
-rest-spec =
-    tie.close
-    (tie.spec
-    sub-result
-    part-result-start
-    part-result-end
-    returns
-    sub-result-2
-    part-result-start-2
-    part-result-end-2
-    returns-2)
+rest-spec = tie.close (tie.spec (λ c. search needs) (λ c. search needs) (λ c. search needs) returns (λ c. search needs) (λ c. search needs)
+    (λ c. search needs) returns-2)

@@ -10,14 +10,8 @@ use Rattle.chars.proofs.Laws.Parts.{run-le}
 use Rattle.cases.proofs.parts.second_field.Statement.{statement}
 use Rattle.cases.proofs.parts.second_field.Tie as tie
 
-part-end-requires : tie.Need-part-end-requires
-part-end-requires c κs = search needs
-
 add-rest : tie.Need-add-rest
 add-rest c = omega (arith, c .part-end .ensures, run-le 9 (c .before .before .args .s .now))
-
-rest-requires : tie.Need-rest-requires
-rest-requires c κs = search needs
 
 returns : tie.Need-returns
 returns c =
@@ -26,4 +20,4 @@ returns c =
     c .rest .ensures ∙ ap (λ (k : ℕ). drop (k + 1) s) e
 
 pub second-field-spec : {M : Type 1} → statement M
-second-field-spec = tie.close (tie.spec part-end-requires add-rest rest-requires returns)
+second-field-spec = tie.close (tie.spec (λ c κs. search needs) add-rest (λ c κs. search needs) returns)

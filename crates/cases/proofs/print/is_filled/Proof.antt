@@ -49,15 +49,4 @@ unfolding filledFrom
 returns-2 c = sym (c .before .loop .inv ∙ all-end (λ b. eqb b 255) (c .before .before .args .out .now) (c .before .loop .i) (omega arith))
 
 pub is-filled-spec : {M : Type 1} → statement M
-is-filled-spec =
-    tie.close
-    (tie.spec
-    Inv-loop
-    μ-loop
-    loop-holds
-    shared-slice-read-if1
-    returns
-    add-i
-    loop-less
-    loop-again
-    returns-2)
+is-filled-spec = tie.close (tie.spec Inv-loop μ-loop loop-holds shared-slice-read-if1 returns add-i loop-less loop-again returns-2)

@@ -15,9 +15,6 @@ returns c = record {
   small = omega arith;
 }
 
-cast-result : tie.Need-cast-result
-cast-result c = search needs
-
 returns-2 : tie.Need-returns-2
 unfolding decimals valueIn
 returns-2 c = record {
@@ -33,4 +30,4 @@ returns-3 c = record {
 }
 
 pub digit-spec : {M : Type 1} → statement M
-digit-spec = tie.close (tie.spec returns cast-result returns-2 returns-3)
+digit-spec = tie.close (tie.spec returns (λ c. search needs) returns-2 returns-3)

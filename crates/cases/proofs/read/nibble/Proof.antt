@@ -29,9 +29,6 @@ returns-3 c = record {
   small = omega arith;
 }
 
-add-result : tie.Need-add-result
-add-result c = search needs
-
 returns-4 : tie.Need-returns-4
 unfolding hexadecimals valueIn
 returns-4 c = record {
@@ -47,4 +44,4 @@ returns-5 c = record {
 }
 
 pub nibble-spec : {M : Type 1} → statement M
-nibble-spec = tie.close (tie.spec returns returns-2 returns-3 add-result returns-4 returns-5)
+nibble-spec = tie.close (tie.spec returns returns-2 returns-3 (λ c. search needs) returns-4 returns-5)

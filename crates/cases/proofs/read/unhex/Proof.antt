@@ -25,32 +25,11 @@ abbrev μ-loop : tie.MeasureT-loop
 loop-holds : tie.Need-loop-holds Inv-loop μ-loop
 loop-holds c = (omega arith, omega arith, refl, omega arith, refl)
 
-sub-if1 : tie.Need-sub-if1 Inv-loop μ-loop
-sub-if1 c = search needs
-
-same-length : tie.Need-same-length Inv-loop μ-loop
-same-length c = search needs
-
 returns : tie.Need-returns Inv-loop μ-loop
 returns c =
     let l = c .before .before .loop in
     let a = c .before .before .before .before .before .args in
     unhexed (a .dst .now) (a .s .now) (l .dst) (l .n) (l .inv .3) (no-more (length (a .dst .now)) (a .s .now) (l .n) (omega arith)) (l .inv .4)
-
-spelt-requires : tie.Need-spelt-requires Inv-loop μ-loop
-spelt-requires c κs = search needs
-
-slice-write-dst : tie.Need-slice-write-dst Inv-loop μ-loop
-slice-write-dst c = search needs
-
-add-n : tie.Need-add-n Inv-loop μ-loop
-add-n c = search needs
-
-add-i : tie.Need-add-i Inv-loop μ-loop
-add-i c = search needs
-
-loop-less : tie.Need-loop-less Inv-loop μ-loop
-loop-less c = search needs
 
 loop-again : tie.Need-loop-again Inv-loop μ-loop
 loop-again c =
@@ -66,9 +45,6 @@ loop-again c =
       l .inv .4 ∙ room-step (length (a .dst .now)) (a .s .now) (l .dst) (l .n) m k ∙ rw e,
     )
 
-same-length-2 : tie.Need-same-length-2 Inv-loop μ-loop
-same-length-2 c = search needs
-
 returns-2 : tie.Need-returns-2 Inv-loop μ-loop
 returns-2 c =
     let l = c .before .loop in
@@ -76,20 +52,5 @@ returns-2 c =
     unhexed (a .dst .now) (a .s .now) (l .dst) (l .n) (l .inv .3) (no-room (length (a .dst .now)) (a .s .now) (l .n) (omega arith)) (l .inv .4)
 
 pub unhex-spec : {M : Type 1} → statement M
-unhex-spec =
-    tie.close
-    (tie.spec
-    Inv-loop
-    μ-loop
-    loop-holds
-    sub-if1
-    same-length
-    returns
-    spelt-requires
-    slice-write-dst
-    add-n
-    add-i
-    loop-less
-    loop-again
-    same-length-2
-    returns-2)
+unhex-spec = tie.close (tie.spec Inv-loop μ-loop loop-holds (λ c. search needs) (λ c. search needs) returns (λ c κs. search needs) (λ c. search needs)
+    (λ c. search needs) (λ c. search needs) (λ c. search needs) loop-again (λ c. search needs) returns-2)

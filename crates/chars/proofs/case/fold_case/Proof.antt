@@ -10,9 +10,6 @@ use Rattle.chars.proofs.case.fold_case.Tie as tie
 returns : tie.Need-returns
 returns c = sym (fold-low (c .before .args .b) (omega arith))
 
-add-result : tie.Need-add-result
-add-result c = search needs
-
 returns-2 : tie.Need-returns-2
 returns-2 c = sym (fold-capital (c .before .before .args .b) (omega arith) (omega arith))
 
@@ -20,4 +17,4 @@ returns-3 : tie.Need-returns-3
 returns-3 c = sym (fold-high (c .before .before .args .b) (omega arith))
 
 pub fold-case-spec : {M : Type 1} → statement M
-fold-case-spec = tie.close (tie.spec returns add-result returns-2 returns-3)
+fold-case-spec = tie.close (tie.spec returns (λ c. search needs) returns-2 returns-3)

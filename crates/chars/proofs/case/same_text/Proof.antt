@@ -25,15 +25,6 @@ loop-holds : tie.Need-loop-holds Inv-loop μ-loop
 unfolding sameText
 loop-holds c = (omega arith, omega arith, refl)
 
-shared-slice-read-same-byte : tie.Need-shared-slice-read-same-byte Inv-loop μ-loop
-shared-slice-read-same-byte c = omega arith
-
-shared-slice-read-same-byte-2 : tie.Need-shared-slice-read-same-byte-2 Inv-loop μ-loop
-shared-slice-read-same-byte-2 c = omega arith
-
-same-byte-requires : tie.Need-same-byte-requires Inv-loop μ-loop
-same-byte-requires c κs = search needs
-
 returns-2 : tie.Need-returns-2 Inv-loop μ-loop
 returns-2 c =
     let at = c .before .before .before .before .before in
@@ -41,12 +32,6 @@ returns-2 c =
     (at .loop .inv .2
     ∙ agree-step sameByte (at .before .before .before .before .args .a .now) (at .before .before .before .before .args .b .now) (at .loop .i) 0 (omega arith) (omega arith)
     ∙ rw (sym (c .before .same-byte .ensures) ∙ not-true (c .before .same-byte .result) (c .if2 .taken)))
-
-add-i : tie.Need-add-i Inv-loop μ-loop
-add-i c = omega arith
-
-loop-less : tie.Need-loop-less Inv-loop μ-loop
-loop-less c = omega arith
 
 loop-again : tie.Need-loop-again Inv-loop μ-loop
 loop-again c =
@@ -62,18 +47,5 @@ returns-3 : tie.Need-returns-3 Inv-loop μ-loop
 returns-3 c = sym (c .before .loop .inv .2 ∙ agree-end sameByte (c .before .before .before .before .before .args .a .now) (c .before .before .before .before .before .args .b .now) (c .before .loop .i) (omega arith) (omega arith))
 
 pub same-text-spec : {M : Type 1} → statement M
-same-text-spec =
-    tie.close
-    (tie.spec
-    Inv-loop
-    μ-loop
-    returns
-    loop-holds
-    shared-slice-read-same-byte
-    shared-slice-read-same-byte-2
-    same-byte-requires
-    returns-2
-    add-i
-    loop-less
-    loop-again
-    returns-3)
+same-text-spec = tie.close (tie.spec Inv-loop μ-loop returns loop-holds (λ c. omega arith) (λ c. omega arith) (λ c κs. search needs) returns-2
+    (λ c. omega arith) (λ c. omega arith) loop-again returns-3)

@@ -63,18 +63,5 @@ unfolding isAtomChar between bytes member
 returns-12 c = on-range (λ b. leb b 126) isAtomChar 94 162 tt (c .before .before .before .before .before .before .before .before .before .before .before .args .b) (omega arith) (omega arith)
 
 pub is-atom-char-spec : {M : Type 1} → statement M
-is-atom-char-spec =
-    tie.close
-    (tie.spec
-    returns
-    returns-2
-    returns-3
-    returns-4
-    returns-5
-    returns-6
-    returns-7
-    returns-8
-    returns-9
-    returns-10
-    returns-11
+is-atom-char-spec = tie.close (tie.spec returns returns-2 returns-3 returns-4 returns-5 returns-6 returns-7 returns-8 returns-9 returns-10 returns-11
     returns-12)

@@ -5,45 +5,6 @@ use Rattle.chars.specs.Class.{isIn}
 use Rattle.chars.proofs.class.is_in.Statement.{statement}
 use Rattle.chars.proofs.class.is_in.Tie as tie
 
-enum-told : tie.Need-enum-told
-enum-told c = search needs
-
-is-letter-requires : tie.Need-is-letter-requires
-is-letter-requires c κs = search needs
-
-enum-told-2 : tie.Need-enum-told-2
-enum-told-2 c = search needs
-
-is-digit-requires : tie.Need-is-digit-requires
-is-digit-requires c κs = search needs
-
-enum-told-3 : tie.Need-enum-told-3
-enum-told-3 c = search needs
-
-is-printable-requires : tie.Need-is-printable-requires
-is-printable-requires c κs = search needs
-
-enum-told-4 : tie.Need-enum-told-4
-enum-told-4 c = search needs
-
-is-quotable-requires : tie.Need-is-quotable-requires
-is-quotable-requires c κs = search needs
-
-enum-told-5 : tie.Need-enum-told-5
-enum-told-5 c = search needs
-
-is-atom-char-requires : tie.Need-is-atom-char-requires
-is-atom-char-requires c κs = search needs
-
-enum-told-6 : tie.Need-enum-told-6
-enum-told-6 c = search needs
-
-is-label-char-requires : tie.Need-is-label-char-requires
-is-label-char-requires c κs = search needs
-
-enum-told-7 : tie.Need-enum-told-7
-enum-told-7 c = search needs
-
 returns : tie.Need-returns
 unfolding isIn
 returns c = rw (c .before .enum-told .given .1) (c .is-letter .ensures)
@@ -73,26 +34,6 @@ unfolding isIn
 returns-7 c = rw (c .enum-told7 .given .1)
 
 pub is-in-spec : {M : Type 1} → statement M
-is-in-spec =
-    tie.close
-    (tie.spec
-    enum-told
-    is-letter-requires
-    enum-told-2
-    is-digit-requires
-    enum-told-3
-    is-printable-requires
-    enum-told-4
-    is-quotable-requires
-    enum-told-5
-    is-atom-char-requires
-    enum-told-6
-    is-label-char-requires
-    enum-told-7
-    returns
-    returns-2
-    returns-3
-    returns-4
-    returns-5
-    returns-6
-    returns-7)
+is-in-spec = tie.close (tie.spec (λ c. search needs) (λ c κs. search needs) (λ c. search needs) (λ c κs. search needs) (λ c. search needs)
+    (λ c κs. search needs) (λ c. search needs) (λ c κs. search needs) (λ c. search needs) (λ c κs. search needs) (λ c. search needs)
+    (λ c κs. search needs) (λ c. search needs) returns returns-2 returns-3 returns-4 returns-5 returns-6 returns-7)

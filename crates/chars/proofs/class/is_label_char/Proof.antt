@@ -16,9 +16,6 @@ returns : tie.Need-returns
 unfolding isLabelChar isLetter isDigit between
 returns c = on-range (λ _. true) isLabelChar 45 1 tt (c .before .args .b) (omega arith) (omega arith)
 
-is-digit-requires : tie.Need-is-digit-requires
-is-digit-requires c κs = search needs
-
 returns-2 : tie.Need-returns-2
 unfolding isLabelChar isLetter isDigit between
 returns-2 c =
@@ -26,13 +23,10 @@ returns-2 c =
     c .is-digit .ensures ∙ on-range-but (λ b. eqb b 45) isDigit isLabelChar 0 65 tt b (omega arith) (omega arith)
     (ne-eqb b 45 (c .before .before .if1 .left))
 
-is-letter-requires : tie.Need-is-letter-requires
-is-letter-requires c κs = search needs
-
 returns-3 : tie.Need-returns-3
 unfolding isLabelChar isLetter isDigit between
 returns-3 c = c .is-letter .ensures ∙ on-range isLetter isLabelChar 65 191 tt (c .before .before .before .args .b) (omega arith) (omega arith)
 
 pub is-label-char-spec : {M : Type 1} → statement M
 is-label-char-spec =
-    tie.close (tie.spec returns is-digit-requires returns-2 is-letter-requires returns-3)
+    tie.close (tie.spec returns (λ c κs. search needs) returns-2 (λ c κs. search needs) returns-3)

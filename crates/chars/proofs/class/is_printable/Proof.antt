@@ -36,13 +36,4 @@ unfolding isPrintable
 returns-7 c = on-range (λ b. eqb b 32) isPrintable 0 39 tt (c .before .before .before .before .before .before .args .b) (omega arith) (omega arith)
 
 pub is-printable-spec : {M : Type 1} → statement M
-is-printable-spec =
-    tie.close
-    (tie.spec
-    returns
-    returns-2
-    returns-3
-    returns-4
-    returns-5
-    returns-6
-    returns-7)
+is-printable-spec = tie.close (tie.spec returns returns-2 returns-3 returns-4 returns-5 returns-6 returns-7)

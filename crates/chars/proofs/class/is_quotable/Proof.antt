@@ -12,12 +12,9 @@ returns : tie.Need-returns
 unfolding isQuotable
 returns c = rw (eq-eqb _ _ (c .if1 .taken), or-true)
 
-is-printable-requires : tie.Need-is-printable-requires
-is-printable-requires c κs = search needs
-
 returns-2 : tie.Need-returns-2
 unfolding isQuotable
 returns-2 c = rw (ne-eqb _ _ (c .before .if1 .left)) (c .is-printable .ensures ∙ sym (or-false (isPrintable (c .before .before .args .b))))
 
 pub is-quotable-spec : {M : Type 1} → statement M
-is-quotable-spec = tie.close (tie.spec returns is-printable-requires returns-2)
+is-quotable-spec = tie.close (tie.spec returns (λ c κs. search needs) returns-2)

@@ -113,28 +113,6 @@ returns-4 c =
     )
 
 pub number-at-spec : {M : Type 1} → statement M
-number-at-spec =
-    tie.close
-    (tie.spec
-    byte-at-requires
-    add-byte-at
-    byte-at-requires-2
-    add-byte-at-2
-    byte-at-requires-3
-    is-digit-requires
-    returns
-    is-digit-requires-2
-    returns-2
-    is-digit-requires-3
-    returns-3
-    sub-result
-    cast-result
-    mul-result
-    sub-result-2
-    cast-result-2
-    mul-result-2
-    add-result
-    sub-result-3
-    cast-result-3
-    add-result-2
-    returns-4)
+number-at-spec = tie.close (tie.spec byte-at-requires add-byte-at byte-at-requires-2 add-byte-at-2 byte-at-requires-3 is-digit-requires returns
+    is-digit-requires-2 returns-2 is-digit-requires-3 returns-3 sub-result cast-result mul-result sub-result-2 cast-result-2 mul-result-2 add-result
+    sub-result-3 cast-result-3 add-result-2 returns-4)

@@ -5,12 +5,9 @@ use Rattle.chars.specs.Parts.{isAtoms}
 use Rattle.chars.proofs.parts.is_atoms.Statement.{statement}
 use Rattle.chars.proofs.parts.is_atoms.Tie as tie
 
-is-parted-requires : tie.Need-is-parted-requires
-is-parted-requires c κs = search needs
-
 returns : tie.Need-returns
 unfolding isAtoms isIn
 returns c = c .is-parted .ensures
 
 pub is-atoms-spec : {M : Type 1} → statement M
-is-atoms-spec = tie.close (tie.spec is-parted-requires returns)
+is-atoms-spec = tie.close (tie.spec (λ c κs. search needs) returns)

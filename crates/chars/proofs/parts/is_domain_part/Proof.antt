@@ -43,15 +43,5 @@ returns-5 c =
     (c .before .if4 .left))
 
 pub is-domain-part-spec : {M : Type 1} → statement M
-is-domain-part-spec =
-    tie.close
-    (tie.spec
-    returns
-    returns-2
-    shared-slice-read-if3
-    returns-3
-    sub-if4
-    shared-slice-read-if4
-    returns-4
-    all-in-requires
+is-domain-part-spec = tie.close (tie.spec returns returns-2 shared-slice-read-if3 returns-3 sub-if4 shared-slice-read-if4 returns-4 all-in-requires
     returns-5)

@@ -77,17 +77,5 @@ returns-3 c =
     sym (l .inv .1 ∙ from-end (a .sep) (isIn (a .class)) (l .«open») (a .s .now) (l .i) (omega arith))
 
 pub is-parted-spec : {M : Type 1} → statement M
-is-parted-spec =
-    tie.close
-    (tie.spec
-    Inv-loop
-    μ-loop
-    loop-holds
-    shared-slice-read-b
-    returns
-    is-in-requires
-    returns-2
-    add-i
-    loop-less
-    loop-again
+is-parted-spec = tie.close (tie.spec Inv-loop μ-loop loop-holds shared-slice-read-b returns is-in-requires returns-2 add-i loop-less loop-again
     returns-3)

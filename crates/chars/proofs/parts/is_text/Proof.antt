@@ -7,12 +7,9 @@ use Rattle.chars.proofs.Laws.Spaces.{text-parted}
 use Rattle.chars.proofs.parts.is_text.Statement.{statement}
 use Rattle.chars.proofs.parts.is_text.Tie as tie
 
-is-parted-requires : tie.Need-is-parted-requires
-is-parted-requires c κs = search needs
-
 returns : tie.Need-returns
 unfolding isIn
 returns c = c .is-parted .ensures ∙ sym (text-parted (c .before .before .args .s .now))
 
 pub is-text-spec : {M : Type 1} → statement M
-is-text-spec = tie.close (tie.spec is-parted-requires returns)
+is-text-spec = tie.close (tie.spec (λ c κs. search needs) returns)

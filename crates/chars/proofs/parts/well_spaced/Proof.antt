@@ -10,12 +10,9 @@ use Rattle.chars.proofs.parts.well_spaced.Tie as tie
 returns : tie.Need-returns
 returns c = sym (empty-spaced (c .before .before .args .s .now) (c .if1 .taken))
 
-is-parted-requires : tie.Need-is-parted-requires
-is-parted-requires c κs = search needs
-
 returns-2 : tie.Need-returns-2
 unfolding isIn
 returns-2 c = c .is-parted .ensures ∙ sym (some-spaced (c .before .before .before .args .s .now) (c .before .if1 .left))
 
 pub well-spaced-spec : {M : Type 1} → statement M
-well-spaced-spec = tie.close (tie.spec returns is-parted-requires returns-2)
+well-spaced-spec = tie.close (tie.spec returns (λ c κs. search needs) returns-2)

@@ -11,18 +11,6 @@ Inv-loop from-utc s n₀ n = n ≤ 26
 abbrev μ-loop : tie.MeasureT-loop
 μ-loop from-utc s n₀ n = 26 - n
 
-loop-holds : tie.Need-loop-holds Inv-loop μ-loop
-loop-holds c = search needs
-
-run-in-requires : tie.Need-run-in-requires Inv-loop μ-loop
-run-in-requires c κs = search needs
-
-add-n : tie.Need-add-n Inv-loop μ-loop
-add-n c = search needs
-
-loop-less : tie.Need-loop-less Inv-loop μ-loop
-loop-less c = search needs
-
 loop-again : tie.Need-loop-again Inv-loop μ-loop
 loop-again c = search needs
 
@@ -32,4 +20,4 @@ returns c = search needs
 pub run-rooms-spec : {M : Type 1} → statement M
 run-rooms-spec =
     tie.close
-    (tie.spec Inv-loop μ-loop loop-holds run-in-requires add-n loop-less loop-again returns)
+    (tie.spec Inv-loop μ-loop (λ c. search needs) (λ c κs. search needs) (λ c. search needs) (λ c. search needs) loop-again returns)

@@ -12,15 +12,6 @@ use Rattle.date_cases.proofs.print.front.Tie as tie
 returns : tie.Need-returns
 returns c = sym (take-all (c .before .args .n) (c .before .args .out .now) (omega arith))
 
-sub-result : tie.Need-sub-result
-sub-result c = search needs
-
-part-result-start : tie.Need-part-result-start
-part-result-start c = search needs
-
-part-result-end : tie.Need-part-result-end
-part-result-end c = search needs
-
 returns-2 : tie.Need-returns-2
 returns-2 c =
     let a = c .before .before .args in
@@ -28,4 +19,4 @@ returns-2 c =
     ap (λ (k : ℕ). take k (a .out .now)) e
 
 pub front-spec : {M : Type 1} → statement M
-front-spec = tie.close (tie.spec returns sub-result part-result-start part-result-end returns-2)
+front-spec = tie.close (tie.spec returns (λ c. search needs) (λ c. search needs) (λ c. search needs) returns-2)

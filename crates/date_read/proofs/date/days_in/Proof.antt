@@ -10,21 +10,12 @@ use Rattle.date_read.proofs.date.days_in.Tie as tie
 returns : tie.Need-returns
 returns c = no-month (c .before .args .year) (c .before .args .month) (c .if1 .taken)
 
-february-requires : tie.Need-february-requires
-february-requires c κs = search needs
-
 returns-2 : tie.Need-returns-2
 returns-2 c = c .february .ensures ∙ ap (daysIn (c .before .before .before .args .year)) (sym (c .before .if2 .taken))
-
-mul-result : tie.Need-mul-result
-mul-result c = search needs
-
-array-read-result : tie.Need-array-read-result
-array-read-result c = search needs
 
 returns-3 : tie.Need-returns-3
 returns-3 c = plain-month (c .before .before .args .year) (c .before .before .args .month) (c .if2 .left)
 
 pub days-in-spec : {M : Type 1} → statement M
 days-in-spec =
-    tie.close (tie.spec returns february-requires returns-2 mul-result array-read-result returns-3)
+    tie.close (tie.spec returns (λ c κs. search needs) returns-2 (λ c. search needs) (λ c. search needs) returns-3)

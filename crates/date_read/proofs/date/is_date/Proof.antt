@@ -11,15 +11,9 @@ use borrow.Author.Needs.{needs}
 use Rattle.date_read.proofs.date.is_date.Statement.{statement}
 use Rattle.date_read.proofs.date.is_date.Tie as tie
 
-is-day-requires : tie.Need-is-day-requires
-is-day-requires c κs = search needs
-
 returns : tie.Need-returns
 unfolding isDate
 returns c = rw (← (c .before .is-day .ensures), not-true (c .before .is-day .result) (c .if1 .taken))
-
-is-time-requires : tie.Need-is-time-requires
-is-time-requires c κs = search needs
 
 returns-2 : tie.Need-returns-2
 unfolding isDate
@@ -31,9 +25,6 @@ returns-2 c =
       ← (c .before .is-time .ensures),
       not-true (c .before .is-time .result) (c .if2 .taken),
     )
-
-is-offset-requires : tie.Need-is-offset-requires
-is-offset-requires c κs = search needs
 
 returns-3 : tie.Need-returns-3
 unfolding isDate
@@ -51,4 +42,4 @@ returns-3 c =
 pub is-date-spec : {M : Type 1} → statement M
 is-date-spec =
     tie.close
-    (tie.spec is-day-requires returns is-time-requires returns-2 is-offset-requires returns-3)
+    (tie.spec (λ c κs. search needs) returns (λ c κs. search needs) returns-2 (λ c κs. search needs) returns-3)

@@ -14,12 +14,9 @@ returns-2 : tie.Need-returns-2
 unfolding isDay
 returns-2 c = rw (le-leb _ _ (c .before .if1 .left), lt-leb _ _ (c .if2 .taken))
 
-days-in-requires : tie.Need-days-in-requires
-days-in-requires c κs = search needs
-
 returns-3 : tie.Need-returns-3
 unfolding isDay
 returns-3 c = rw (le-leb _ _ (c .before .before .if1 .left), le-leb _ _ (c .before .if2 .left), c .days-in .ensures)
 
 pub is-day-spec : {M : Type 1} → statement M
-is-day-spec = tie.close (tie.spec returns returns-2 days-in-requires returns-3)
+is-day-spec = tie.close (tie.spec returns returns-2 (λ c κs. search needs) returns-3)

@@ -5,12 +5,6 @@ use borrow.Author.Needs.{needs}
 use Rattle.date_read.proofs.date.is_second.Statement.{statement}
 use Rattle.date_read.proofs.date.is_second.Tie as tie
 
-enum-known-second : tie.Need-enum-known-second
-enum-known-second c = search needs
-
-enum-told : tie.Need-enum-told
-enum-told c = search needs
-
 returns : tie.Need-returns
 unfolding isSecond
 returns c = rw (c .before .second .given .1)
@@ -20,4 +14,4 @@ unfolding isSecond
 returns-2 c = rw (c .enum-told .given .1)
 
 pub is-second-spec : {M : Type 1} → statement M
-is-second-spec = tie.close (tie.spec enum-known-second enum-told returns returns-2)
+is-second-spec = tie.close (tie.spec (λ c. search needs) (λ c. search needs) returns returns-2)

@@ -14,12 +14,9 @@ returns-2 : tie.Need-returns-2
 unfolding isTime
 returns-2 c = rw (le-leb _ _ (c .before .if1 .left), lt-leb _ _ (c .if2 .taken))
 
-is-second-requires : tie.Need-is-second-requires
-is-second-requires c κs = search needs
-
 returns-3 : tie.Need-returns-3
 unfolding isTime
 returns-3 c = rw (le-leb _ _ (c .before .before .if1 .left), le-leb _ _ (c .before .if2 .left)) (c .is-second .ensures)
 
 pub is-time-spec : {M : Type 1} → statement M
-is-time-spec = tie.close (tie.spec returns returns-2 is-second-requires returns-3)
+is-time-spec = tie.close (tie.spec returns returns-2 (λ c κs. search needs) returns-3)

@@ -52,14 +52,5 @@ returns-3 c =
     (c .offset-of .ensures)
 
 pub date-zone-of-spec : {M : Type 1} → statement M
-date-zone-of-spec =
-    tie.close
-    (tie.spec
-    slice-aggregate-same-text
-    same-text-requires
-    returns
-    slice-aggregate-same-text-2
-    same-text-requires-2
-    returns-2
-    offset-of-requires
-    returns-3)
+date-zone-of-spec = tie.close (tie.spec slice-aggregate-same-text same-text-requires returns slice-aggregate-same-text-2 same-text-requires-2
+    returns-2 offset-of-requires returns-3)

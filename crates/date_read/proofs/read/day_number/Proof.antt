@@ -10,15 +10,9 @@ use borrow.Author.Needs.{needs}
 use Rattle.date_read.proofs.read.day_number.Statement.{statement}
 use Rattle.date_read.proofs.read.day_number.Tie as tie
 
-slice-aggregate-number-in : tie.Need-slice-aggregate-number-in
-slice-aggregate-number-in c = search needs
-
-number-in-requires : tie.Need-number-in-requires
-number-in-requires c κs = search needs
-
 returns : tie.Need-returns
 unfolding bytes
 returns c = c .number-in .ensures ∙ ap (λ (ns : List (List ℕ)). numberIn 1 ns (c .before .before .before .args .s .now)) days-spelled
 
 pub day-number-spec : {M : Type 1} → statement M
-day-number-spec = tie.close (tie.spec slice-aggregate-number-in number-in-requires returns)
+day-number-spec = tie.close (tie.spec (λ c. search needs) (λ c κs. search needs) returns)

@@ -5,9 +5,6 @@ use borrow.Author.Needs.{needs}
 use Rattle.date_read.proofs.read.if_date.Statement.{statement}
 use Rattle.date_read.proofs.read.if_date.Tie as tie
 
-is-date-requires : tie.Need-is-date-requires
-is-date-requires c κs = search needs
-
 returns : tie.Need-returns
 unfolding kept
 returns c = rw (← (c .before .is-date .ensures), c .if1 .taken)
@@ -17,4 +14,4 @@ unfolding kept
 returns-2 c = rw (← (c .before .is-date .ensures), c .if1 .left)
 
 pub if-date-spec : {M : Type 1} → statement M
-if-date-spec = tie.close (tie.spec is-date-requires returns returns-2)
+if-date-spec = tie.close (tie.spec (λ c κs. search needs) returns returns-2)

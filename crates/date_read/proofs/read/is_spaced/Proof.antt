@@ -6,25 +6,16 @@ use borrow.Author.Needs.{needs}
 use Rattle.date_read.proofs.read.is_spaced.Statement.{statement}
 use Rattle.date_read.proofs.read.is_spaced.Tie as tie
 
-byte-at-requires : tie.Need-byte-at-requires
-byte-at-requires c κs = search needs
-
 returns : tie.Need-returns
 unfolding spacedAt
 returns c =
     rw (← (c .before .byte-at .ensures), ne-eqb _ _ (c .if1 .taken))
-
-byte-at-requires-2 : tie.Need-byte-at-requires-2
-byte-at-requires-2 c κs = search needs
 
 returns-2 : tie.Need-returns-2
 unfolding spacedAt
 returns-2 c =
     let at1 = c .before .before in
     rw (← (at1 .before .byte-at .ensures), eq-eqb _ _ (at1 .if1 .left), ← (c .before .byte-at2 .ensures), ne-eqb _ _ (c .if2 .taken))
-
-byte-at-requires-3 : tie.Need-byte-at-requires-3
-byte-at-requires-3 c κs = search needs
 
 returns-3 : tie.Need-returns-3
 unfolding spacedAt
@@ -39,9 +30,6 @@ returns-3 c =
       ← (c .before .byte-at3 .ensures),
       ne-eqb _ _ (c .if3 .taken),
     )
-
-byte-at-requires-4 : tie.Need-byte-at-requires-4
-byte-at-requires-4 c κs = search needs
 
 returns-4 : tie.Need-returns-4
 unfolding spacedAt
@@ -59,9 +47,6 @@ returns-4 c =
       ← (c .before .byte-at4 .ensures),
       ne-eqb _ _ (c .if4 .taken),
     )
-
-byte-at-requires-5 : tie.Need-byte-at-requires-5
-byte-at-requires-5 c κs = search needs
 
 returns-5 : tie.Need-returns-5
 unfolding spacedAt
@@ -83,16 +68,5 @@ returns-5 c =
     )
 
 pub is-spaced-spec : {M : Type 1} → statement M
-is-spaced-spec =
-    tie.close
-    (tie.spec
-    byte-at-requires
-    returns
-    byte-at-requires-2
-    returns-2
-    byte-at-requires-3
-    returns-3
-    byte-at-requires-4
-    returns-4
-    byte-at-requires-5
-    returns-5)
+is-spaced-spec = tie.close (tie.spec (λ c κs. search needs) returns (λ c κs. search needs) returns-2 (λ c κs. search needs) returns-3
+    (λ c κs. search needs) returns-4 (λ c κs. search needs) returns-5)

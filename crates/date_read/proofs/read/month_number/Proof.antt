@@ -9,15 +9,6 @@ use borrow.Author.Needs.{needs}
 use Rattle.date_read.proofs.read.month_number.Statement.{statement}
 use Rattle.date_read.proofs.read.month_number.Tie as tie
 
-month-letters-requires : tie.Need-month-letters-requires
-month-letters-requires c κs = search needs
-
-slice-aggregate-number-in : tie.Need-slice-aggregate-number-in
-slice-aggregate-number-in c = search needs
-
-number-in-requires : tie.Need-number-in-requires
-number-in-requires c κs = search needs
-
 returns : tie.Need-returns
 returns c =
     let s = c .before .before .before .before .args .s .now in
@@ -28,4 +19,4 @@ returns c =
 pub month-number-spec : {M : Type 1} → statement M
 month-number-spec =
     tie.close
-    (tie.spec month-letters-requires slice-aggregate-number-in number-in-requires returns)
+    (tie.spec (λ c κs. search needs) (λ c. search needs) (λ c κs. search needs) returns)

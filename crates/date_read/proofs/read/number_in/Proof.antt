@@ -27,35 +27,11 @@ part t s i e = let n : i + 3 - i ≡ 3 = omega arith in ap (λ (k : ℕ). sameTe
 loop-holds : tie.Need-loop-holds Inv-loop μ-loop
 loop-holds c = (omega arith, omega arith, refl)
 
-sub-loop : tie.Need-sub-loop Inv-loop μ-loop
-sub-loop c = search needs
-
-add-next : tie.Need-add-next Inv-loop μ-loop
-add-next c = search needs
-
-sub-same-text : tie.Need-sub-same-text Inv-loop μ-loop
-sub-same-text c = search needs
-
-part-same-text-start : tie.Need-part-same-text-start Inv-loop μ-loop
-part-same-text-start c = search needs
-
-part-same-text-end : tie.Need-part-same-text-end Inv-loop μ-loop
-part-same-text-end c = search needs
-
-same-text-requires : tie.Need-same-text-requires Inv-loop μ-loop
-same-text-requires c κs = search needs
-
 returns : tie.Need-returns Inv-loop μ-loop
 returns c =
     let l = c .before .before .before .before .loop in
     let a = c .before .before .before .before .before .before .before .args in
     number-here (a .names .now) (a .s .now) (l .from) (l .number) (omega arith) (part (a .names .now) (a .s .now) (l .from) (sym (c .before .same-text .ensures) ∙ c .if1 .taken)) ∙ sym (l .inv .2)
-
-add-number : tie.Need-add-number Inv-loop μ-loop
-add-number c = search needs
-
-loop-less : tie.Need-loop-less Inv-loop μ-loop
-loop-less c = search needs
 
 loop-again : tie.Need-loop-again Inv-loop μ-loop
 loop-again c =
@@ -74,20 +50,5 @@ returns-2 c =
     number-none (a .names .now) (a .s .now) (l .from) (l .number) (omega arith) ∙ sym (l .inv .2)
 
 pub number-in-spec : {M : Type 1} → statement M
-number-in-spec =
-    tie.close
-    (tie.spec
-    Inv-loop
-    μ-loop
-    loop-holds
-    sub-loop
-    add-next
-    sub-same-text
-    part-same-text-start
-    part-same-text-end
-    same-text-requires
-    returns
-    add-number
-    loop-less
-    loop-again
-    returns-2)
+number-in-spec = tie.close (tie.spec Inv-loop μ-loop loop-holds (λ c. search needs) (λ c. search needs) (λ c. search needs) (λ c. search needs)
+    (λ c. search needs) (λ c κs. search needs) returns (λ c. search needs) (λ c. search needs) loop-again returns-2)

@@ -13,18 +13,9 @@ returns : tie.Need-returns
 unfolding offsetOf
 returns c = rw (ne-eqb _ _ (c .if1 .taken))
 
-shared-slice-read-sign : tie.Need-shared-slice-read-sign
-shared-slice-read-sign c = search needs
-
 returns-2 : tie.Need-returns-2
 unfolding offsetOf
 returns-2 c = rw (eq-eqb _ _ (c .before .before .before .if1 .left), ne-eqb _ _ (c .before .if2 .taken), ne-eqb _ _ (c .if3 .taken))
-
-two-digits-requires : tie.Need-two-digits-requires
-two-digits-requires c κs = search needs
-
-two-digits-requires-2 : tie.Need-two-digits-requires-2
-two-digits-requires-2 c κs = search needs
 
 returns-3 : tie.Need-returns-3
 returns-3 c =
@@ -42,15 +33,6 @@ returns-4 c =
     (⊎-elim (λ w. minus-sign (getD s 0 0) (w .1 .left)) (λ w. plus-sign (getD s 0 0) (w .left)) (d .if2 .came))
     (c .before .before .before .two-digits .ensures) (c .before .before .two-digits2 .ensures) (c .before .if4 .left) (c .if5 .taken)
 
-mul-signed-minutes : tie.Need-mul-signed-minutes
-mul-signed-minutes c = search needs
-
-add-signed-minutes : tie.Need-add-signed-minutes
-add-signed-minutes c = search needs
-
-signed-minutes-requires : tie.Need-signed-minutes-requires
-signed-minutes-requires c κs = search needs
-
 returns-5 : tie.Need-returns-5
 returns-5 c =
     let s = c .before .before .before .before .before .before .before .before .before .args .s .now in
@@ -60,17 +42,5 @@ returns-5 c =
     (c .before .before .before .before .two-digits .ensures) (c .before .before .before .two-digits2 .ensures) (c .before .before .if4 .left) (c .before .if5 .left) (c .signed-minutes .ensures)
 
 pub offset-of-spec : {M : Type 1} → statement M
-offset-of-spec =
-    tie.close
-    (tie.spec
-    returns
-    shared-slice-read-sign
-    returns-2
-    two-digits-requires
-    two-digits-requires-2
-    returns-3
-    returns-4
-    mul-signed-minutes
-    add-signed-minutes
-    signed-minutes-requires
-    returns-5)
+offset-of-spec = tie.close (tie.spec returns (λ c. search needs) returns-2 (λ c κs. search needs) (λ c κs. search needs) returns-3 returns-4
+    (λ c. search needs) (λ c. search needs) (λ c κs. search needs) returns-5)

@@ -9,18 +9,9 @@ use borrow.Author.Needs.{needs}
 use Rattle.date_read.proofs.read.one_digit.Statement.{statement}
 use Rattle.date_read.proofs.read.one_digit.Tie as tie
 
-byte-at-requires : tie.Need-byte-at-requires
-byte-at-requires c κs = search needs
-
-is-digit-requires : tie.Need-is-digit-requires
-is-digit-requires c κs = search needs
-
 returns : tie.Need-returns
 unfolding oneDigit
 returns c = rw (← (c .before .before .byte-at .ensures), ← (c .before .is-digit .ensures), not-true (c .before .is-digit .result) (c .if1 .taken))
-
-wide-requires : tie.Need-wide-requires
-wide-requires c κs = search needs
 
 sub-result : tie.Need-sub-result
 sub-result c =
@@ -41,4 +32,4 @@ returns-2 c =
 pub one-digit-spec : {M : Type 1} → statement M
 one-digit-spec =
     tie.close
-    (tie.spec byte-at-requires is-digit-requires returns wide-requires sub-result returns-2)
+    (tie.spec (λ c κs. search needs) (λ c κs. search needs) returns (λ c κs. search needs) sub-result returns-2)

@@ -6,32 +6,11 @@ use borrow.Author.Needs.{needs}
 use Rattle.date_read.proofs.read.read_body.Statement.{statement}
 use Rattle.date_read.proofs.read.read_body.Tie as tie
 
-byte-at-requires : tie.Need-byte-at-requires
-byte-at-requires c κs = search needs
-
-behind-requires : tie.Need-behind-requires
-behind-requires c κs = search needs
-
-one-digit-requires : tie.Need-one-digit-requires
-one-digit-requires c κs = search needs
-
-read-rest-requires : tie.Need-read-rest-requires
-read-rest-requires c κs = search needs
-
 returns : tie.Need-returns
 returns c =
     let d = c .before .before .before in
     c .read-rest .ensures
     ∙ body-one (d .before .before .before .args .b .now) _ _ _ (d .before .byte-at .ensures) (d .if1 .taken) (c .before .before .behind .ensures) (c .before .one-digit .ensures)
-
-behind-requires-2 : tie.Need-behind-requires-2
-behind-requires-2 c κs = search needs
-
-two-digits-requires : tie.Need-two-digits-requires
-two-digits-requires c κs = search needs
-
-read-rest-requires-2 : tie.Need-read-rest-requires-2
-read-rest-requires-2 c κs = search needs
 
 returns-2 : tie.Need-returns-2
 returns-2 c =
@@ -40,15 +19,5 @@ returns-2 c =
     ∙ body-two (d .before .before .before .args .b .now) _ _ _ (d .before .byte-at .ensures) (d .if1 .left) (c .before .before .behind2 .ensures) (c .before .two-digits .ensures)
 
 pub read-body-spec : {M : Type 1} → statement M
-read-body-spec =
-    tie.close
-    (tie.spec
-    byte-at-requires
-    behind-requires
-    one-digit-requires
-    read-rest-requires
-    returns
-    behind-requires-2
-    two-digits-requires
-    read-rest-requires-2
-    returns-2)
+read-body-spec = tie.close (tie.spec (λ c κs. search needs) (λ c κs. search needs) (λ c κs. search needs) (λ c κs. search needs) returns
+    (λ c κs. search needs) (λ c κs. search needs) (λ c κs. search needs) returns-2)

@@ -7,31 +7,13 @@ use borrow.Author.Needs.{needs}
 use Rattle.date_read.proofs.read.read_rest.Statement.{statement}
 use Rattle.date_read.proofs.read.read_rest.Tie as tie
 
-rest-end-requires : tie.Need-rest-end-requires
-rest-end-requires c κs = search needs
-
-is-spaced-requires : tie.Need-is-spaced-requires
-is-spaced-requires c κs = search needs
-
 returns : tie.Need-returns
 returns c =
     let a = c .before .before .before .before .args in
     rest-unspaced (a .r .now) (a .day) _ _ (c .before .before .rest-end .ensures) (c .before .is-spaced .ensures) (not-true _ (c .if1 .taken))
 
-second-at-requires : tie.Need-second-at-requires
-second-at-requires c κs = search needs
-
 add-behind : tie.Need-add-behind
 add-behind c = search (needs, end-most (c .before .before .before .before .before .args .r .now), c .before .before .before .rest-end .ensures)
-
-behind-requires : tie.Need-behind-requires
-behind-requires c κs = search needs
-
-date-zone-of-requires : tie.Need-date-zone-of-requires
-date-zone-of-requires c κs = search needs
-
-rest-with-requires : tie.Need-rest-with-requires
-rest-with-requires c κs = search needs
 
 returns-2 : tie.Need-returns-2
 returns-2 c =
@@ -42,15 +24,5 @@ returns-2 c =
     (c .before .before .before .second-at .ensures) (c .before .before .behind .ensures) (c .before .date-zone-of .ensures)
 
 pub read-rest-spec : {M : Type 1} → statement M
-read-rest-spec =
-    tie.close
-    (tie.spec
-    rest-end-requires
-    is-spaced-requires
-    returns
-    second-at-requires
-    add-behind
-    behind-requires
-    date-zone-of-requires
-    rest-with-requires
-    returns-2)
+read-rest-spec = tie.close (tie.spec (λ c κs. search needs) (λ c κs. search needs) returns (λ c κs. search needs) add-behind (λ c κs. search needs)
+    (λ c κs. search needs) (λ c κs. search needs) returns-2)

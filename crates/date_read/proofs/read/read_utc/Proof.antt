@@ -6,21 +6,6 @@ use borrow.Author.Needs.{needs}
 use Rattle.date_read.proofs.read.read_utc.Statement.{statement}
 use Rattle.date_read.proofs.read.read_utc.Tie as tie
 
-utc-end-requires : tie.Need-utc-end-requires
-utc-end-requires c κs = search needs
-
-second-at-requires : tie.Need-second-at-requires
-second-at-requires c κs = search needs
-
-behind-requires : tie.Need-behind-requires
-behind-requires c κs = search needs
-
-utc-zone-of-requires : tie.Need-utc-zone-of-requires
-utc-zone-of-requires c κs = search needs
-
-utc-with-requires : tie.Need-utc-with-requires
-utc-with-requires c κs = search needs
-
 returns : tie.Need-returns
 returns c =
     let d = c .before .before .before in
@@ -29,12 +14,5 @@ returns c =
     (c .before .utc-zone-of .ensures)
 
 pub read-utc-spec : {M : Type 1} → statement M
-read-utc-spec =
-    tie.close
-    (tie.spec
-    utc-end-requires
-    second-at-requires
-    behind-requires
-    utc-zone-of-requires
-    utc-with-requires
+read-utc-spec = tie.close (tie.spec (λ c κs. search needs) (λ c κs. search needs) (λ c κs. search needs) (λ c κs. search needs) (λ c κs. search needs)
     returns)

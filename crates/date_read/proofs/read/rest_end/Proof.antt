@@ -6,9 +6,6 @@ use borrow.Author.Needs.{needs}
 use Rattle.date_read.proofs.read.rest_end.Statement.{statement}
 use Rattle.date_read.proofs.read.rest_end.Tie as tie
 
-byte-at-requires : tie.Need-byte-at-requires
-byte-at-requires c κs = search needs
-
 returns : tie.Need-returns
 unfolding restEnd
 returns c = rw (← (c .before .byte-at .ensures), eq-eqb _ _ (c .if1 .taken))
@@ -18,4 +15,4 @@ unfolding restEnd
 returns-2 c = rw (← (c .before .byte-at .ensures), ne-eqb _ _ (c .if1 .left))
 
 pub rest-end-spec : {M : Type 1} → statement M
-rest-end-spec = tie.close (tie.spec byte-at-requires returns returns-2)
+rest-end-spec = tie.close (tie.spec (λ c κs. search needs) returns returns-2)

@@ -10,9 +10,6 @@ use borrow.Author.Needs.{needs}
 use Rattle.date_read.proofs.read.signed_minutes.Statement.{statement}
 use Rattle.date_read.proofs.read.signed_minutes.Tie as tie
 
-cast-m : tie.Need-cast-m
-cast-m c = search needs
-
 sub-result : tie.Need-sub-result
 sub-result c = negated-fits (c .before .args .n) (omega arith)
 
@@ -27,4 +24,4 @@ unfolding signed
 returns-2 c = rw (c .if1 .left) (number-read (c .before .args .n) (omega arith))
 
 pub signed-minutes-spec : {M : Type 1} → statement M
-signed-minutes-spec = tie.close (tie.spec cast-m sub-result returns returns-2)
+signed-minutes-spec = tie.close (tie.spec (λ c. search needs) sub-result returns returns-2)

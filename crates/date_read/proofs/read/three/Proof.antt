@@ -10,9 +10,6 @@ use borrow.Author.Needs.{needs}
 use Rattle.date_read.proofs.read.three.Statement.{statement}
 use Rattle.date_read.proofs.read.three.Tie as tie
 
-behind-requires : tie.Need-behind-requires
-behind-requires c κs = search needs
-
 returns : tie.Need-returns
 returns c =
     let t = c .before .behind .result .now in
@@ -25,4 +22,4 @@ returns-2 : tie.Need-returns-2
 returns-2 c = ap (λ (x : List ℕ). take 3 x) (c .before .before .behind .ensures)
 
 pub three-spec : {M : Type 1} → statement M
-three-spec = tie.close (tie.spec behind-requires returns slice-aggregate-result returns-2)
+three-spec = tie.close (tie.spec (λ c κs. search needs) returns slice-aggregate-result returns-2)

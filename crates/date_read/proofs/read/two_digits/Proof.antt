@@ -9,24 +9,9 @@ use borrow.Author.Needs.{needs}
 use Rattle.date_read.proofs.read.two_digits.Statement.{statement}
 use Rattle.date_read.proofs.read.two_digits.Tie as tie
 
-byte-at-requires : tie.Need-byte-at-requires
-byte-at-requires c κs = search needs
-
-add-byte-at : tie.Need-add-byte-at
-add-byte-at c = search needs
-
-byte-at-requires-2 : tie.Need-byte-at-requires-2
-byte-at-requires-2 c κs = search needs
-
-is-digit-requires : tie.Need-is-digit-requires
-is-digit-requires c κs = search needs
-
 returns : tie.Need-returns
 unfolding twoDigits
 returns c = rw (← (c .before .before .before .byte-at .ensures), ← (c .before .is-digit .ensures), not-true (c .before .is-digit .result) (c .if1 .taken))
-
-is-digit-requires-2 : tie.Need-is-digit-requires-2
-is-digit-requires-2 c κs = search needs
 
 returns-2 : tie.Need-returns-2
 unfolding twoDigits
@@ -41,27 +26,15 @@ returns-2 c =
       not-true (c .before .is-digit2 .result) (c .if2 .taken),
     )
 
-wide-requires : tie.Need-wide-requires
-wide-requires c κs = search needs
-
 sub-result : tie.Need-sub-result
 sub-result c =
     let d = c .before .before .before in
     omega (arith, c .wide .ensures, digit-low (d .before .before .before .byte-at .result) (passed (d .before .is-digit .ensures) (d .if1 .left)))
 
-mul-result : tie.Need-mul-result
-mul-result c = search needs
-
-wide-requires-2 : tie.Need-wide-requires-2
-wide-requires-2 c κs = search needs
-
 sub-result-2 : tie.Need-sub-result-2
 sub-result-2 c =
     let e = c .before .before in
     omega (arith, c .wide2 .ensures, digit-low (e .before .before .before .before .byte-at2 .result) (passed (e .before .is-digit2 .ensures) (e .if2 .left)))
-
-add-result : tie.Need-add-result
-add-result c = search needs
 
 returns-3 : tie.Need-returns-3
 unfolding twoDigits
@@ -80,20 +53,6 @@ returns-3 c =
     )
 
 pub two-digits-spec : {M : Type 1} → statement M
-two-digits-spec =
-    tie.close
-    (tie.spec
-    byte-at-requires
-    add-byte-at
-    byte-at-requires-2
-    is-digit-requires
-    returns
-    is-digit-requires-2
-    returns-2
-    wide-requires
-    sub-result
-    mul-result
-    wide-requires-2
-    sub-result-2
-    add-result
+two-digits-spec = tie.close (tie.spec (λ c κs. search needs) (λ c. search needs) (λ c κs. search needs) (λ c κs. search needs) returns
+    (λ c κs. search needs) returns-2 (λ c κs. search needs) sub-result (λ c. search needs) (λ c κs. search needs) sub-result-2 (λ c. search needs)
     returns-3)

@@ -5,12 +5,6 @@ use borrow.Author.Needs.{needs}
 use Rattle.date_read.proofs.read.utc_end.Statement.{statement}
 use Rattle.date_read.proofs.read.utc_end.Tie as tie
 
-byte-at-requires : tie.Need-byte-at-requires
-byte-at-requires c κs = search needs
-
-is-digit-requires : tie.Need-is-digit-requires
-is-digit-requires c κs = search needs
-
 returns : tie.Need-returns
 unfolding utcEnd
 returns c = rw (← (c .before .before .byte-at .ensures), ← (c .before .is-digit .ensures), c .if1 .taken)
@@ -20,4 +14,4 @@ unfolding utcEnd
 returns-2 c = rw (← (c .before .before .byte-at .ensures), ← (c .before .is-digit .ensures), c .if1 .left)
 
 pub utc-end-spec : {M : Type 1} → statement M
-utc-end-spec = tie.close (tie.spec byte-at-requires is-digit-requires returns returns-2)
+utc-end-spec = tie.close (tie.spec (λ c κs. search needs) (λ c κs. search needs) returns returns-2)

@@ -9,24 +9,6 @@ use borrow.Author.Needs.{needs}
 use Rattle.date_read.proofs.read.utc_with.Statement.{statement}
 use Rattle.date_read.proofs.read.utc_with.Tie as tie
 
-two-digits-requires : tie.Need-two-digits-requires
-two-digits-requires c κs = search needs
-
-two-digits-requires-2 : tie.Need-two-digits-requires-2
-two-digits-requires-2 c κs = search needs
-
-two-digits-requires-3 : tie.Need-two-digits-requires-3
-two-digits-requires-3 c κs = search needs
-
-two-digits-requires-4 : tie.Need-two-digits-requires-4
-two-digits-requires-4 c κs = search needs
-
-two-digits-requires-5 : tie.Need-two-digits-requires-5
-two-digits-requires-5 c κs = search needs
-
-if-date-requires : tie.Need-if-date-requires
-if-date-requires c κs = search needs
-
 returns : tie.Need-returns
 returns c =
     let d = c .before .before .before in
@@ -38,13 +20,5 @@ returns c =
     (toZ-ofZ w32 (a .offset) (d .before .before .before .before .fits .offset)))
 
 pub utc-with-spec : {M : Type 1} → statement M
-utc-with-spec =
-    tie.close
-    (tie.spec
-    two-digits-requires
-    two-digits-requires-2
-    two-digits-requires-3
-    two-digits-requires-4
-    two-digits-requires-5
-    if-date-requires
-    returns)
+utc-with-spec = tie.close (tie.spec (λ c κs. search needs) (λ c κs. search needs) (λ c κs. search needs) (λ c κs. search needs) (λ c κs. search needs)
+    (λ c κs. search needs) returns)

@@ -9,20 +9,11 @@ use borrow.Author.Needs.{needs}
 use Rattle.date_read.proofs.read.utc_zone_of.Statement.{statement}
 use Rattle.date_read.proofs.read.utc_zone_of.Tie as tie
 
-slice-aggregate-same-text : tie.Need-slice-aggregate-same-text
-slice-aggregate-same-text c = search needs
-
-same-text-requires : tie.Need-same-text-requires
-same-text-requires c κs = search needs
-
 returns : tie.Need-returns
 unfolding bytes
 returns c =
     let s = c .before .before .before .before .args .s .now in
     zone-named utcNames s 0 (named 1 _ _ s (sym (c .before .same-text .ensures) ∙ c .if1 .taken))
-
-offset-of-requires : tie.Need-offset-of-requires
-offset-of-requires c κs = search needs
 
 returns-2 : tie.Need-returns-2
 unfolding bytes
@@ -36,4 +27,4 @@ returns-2 c =
 pub utc-zone-of-spec : {M : Type 1} → statement M
 utc-zone-of-spec =
     tie.close
-    (tie.spec slice-aggregate-same-text same-text-requires returns offset-of-requires returns-2)
+    (tie.spec (λ c. search needs) (λ c κs. search needs) returns (λ c κs. search needs) returns-2)

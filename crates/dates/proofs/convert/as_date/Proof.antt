@@ -13,12 +13,6 @@ use borrow.Author.Needs.{needs}
 use Rattle.dates.proofs.convert.as_date.Statement.{statement}
 use Rattle.dates.proofs.convert.as_date.Tie as tie
 
-slice-aggregate-write-date : tie.Need-slice-aggregate-write-date
-slice-aggregate-write-date c = search needs
-
-write-date-requires : tie.Need-write-date-requires
-write-date-requires c κs = search needs
-
 -- the text fits
 fits : (c : tie.After-write-date) → c .write-date .result ≤ length (c .write-date .last .0)
 fits c =
@@ -33,12 +27,6 @@ slice-aggregate-place c =
     let w = c .before .before .before .write-date in
     sym (length-take-le (w .result) (w .last .0) (fits (c .before .before .before)))
 
-place-requires : tie.Need-place-requires
-place-requires c κs = search needs
-
-same-length : tie.Need-same-length
-same-length c = search needs
-
 returns : tie.Need-returns
 returns c =
     let w = c .before .before .before .before .before .before in
@@ -46,13 +34,5 @@ returns c =
     c .before .before .place .ensures ∙ ap (λ (t : List ℕ). placedText t (s .args .out .now)) (wrote-taken (w .write-date .ensures) (omega (arith, date-length (s .args .d) (s .pre))))
 
 pub as-date-spec : {M : Type 1} → statement M
-as-date-spec =
-    tie.close
-    (tie.spec
-    slice-aggregate-write-date
-    write-date-requires
-    array-share-prefix-text
-    slice-aggregate-place
-    place-requires
-    same-length
-    returns)
+as-date-spec = tie.close (tie.spec (λ c. search needs) (λ c κs. search needs) array-share-prefix-text slice-aggregate-place (λ c κs. search needs)
+    (λ c. search needs) returns)

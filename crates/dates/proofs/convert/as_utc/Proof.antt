@@ -13,12 +13,6 @@ use borrow.Author.Needs.{needs}
 use Rattle.dates.proofs.convert.as_utc.Statement.{statement}
 use Rattle.dates.proofs.convert.as_utc.Tie as tie
 
-slice-aggregate-write-utc : tie.Need-slice-aggregate-write-utc
-slice-aggregate-write-utc c = search needs
-
-write-utc-requires : tie.Need-write-utc-requires
-write-utc-requires c κs = search needs
-
 -- the text fits
 fits : (c : tie.After-write-utc) → c .write-utc .result ≤ length (c .write-utc .last .0)
 fits c =
@@ -33,12 +27,6 @@ slice-aggregate-place c =
     let w = c .before .before .before .write-utc in
     sym (length-take-le (w .result) (w .last .0) (fits (c .before .before .before)))
 
-place-requires : tie.Need-place-requires
-place-requires c κs = search needs
-
-same-length : tie.Need-same-length
-same-length c = search needs
-
 returns : tie.Need-returns
 returns c =
     let w = c .before .before .before .before .before .before in
@@ -46,13 +34,5 @@ returns c =
     c .before .before .place .ensures ∙ ap (λ (t : List ℕ). placedText t (s .args .out .now)) (wrote-taken (w .write-utc .ensures) (omega (arith, utc-length (s .args .d))))
 
 pub as-utc-spec : {M : Type 1} → statement M
-as-utc-spec =
-    tie.close
-    (tie.spec
-    slice-aggregate-write-utc
-    write-utc-requires
-    array-share-prefix-text
-    slice-aggregate-place
-    place-requires
-    same-length
-    returns)
+as-utc-spec = tie.close (tie.spec (λ c. search needs) (λ c κs. search needs) array-share-prefix-text slice-aggregate-place (λ c κs. search needs)
+    (λ c. search needs) returns)

@@ -14,12 +14,6 @@ use borrow.Author.Needs.{needs}
 use Rattle.dates.proofs.convert.date_to_utc.Statement.{statement}
 use Rattle.dates.proofs.convert.date_to_utc.Tie as tie
 
-read-date-requires : tie.Need-read-date-requires
-read-date-requires c κs = search needs
-
-enum-known-d : tie.Need-enum-known-d
-enum-known-d c = search needs
-
 -- what was read
 came : (c : tie.After-d) → let r = c .before .before in readDate (r .before .before .before .args .date .now) ≡ some (c .d .given .0 .0)
 came c = sym (rw (c .d .given .1) at (c .before .before .read-date .ensures))
@@ -28,15 +22,6 @@ as-utc-requires : tie.Need-as-utc-requires
 as-utc-requires c κs =
     let n = c .before .before in
     date-date (n .before .before .before .before .before .args .date .now) (n .d .given .0 .0) (came n)
-
-enum-told : tie.Need-enum-told
-enum-told c = search needs
-
-no-date-requires : tie.Need-no-date-requires
-no-date-requires c κs = search needs
-
-same-length : tie.Need-same-length
-same-length c = search needs
 
 returns : tie.Need-returns
 unfolding dateToUtc converted
@@ -53,14 +38,5 @@ returns-2 c =
     ap (λ (w : DateWritten). told w (a .out .now)) (c .no-date .ensures) ∙ ap (λ (o : Option DateTime). converted utcText o (a .out .now)) (rw (c .before .enum-told .given .1) at (r .read-date .ensures))
 
 pub date-to-utc-spec : {M : Type 1} → statement M
-date-to-utc-spec =
-    tie.close
-    (tie.spec
-    read-date-requires
-    enum-known-d
-    as-utc-requires
-    enum-told
-    no-date-requires
-    same-length
-    returns
-    returns-2)
+date-to-utc-spec = tie.close (tie.spec (λ c κs. search needs) (λ c. search needs) as-utc-requires (λ c. search needs) (λ c κs. search needs)
+    (λ c. search needs) returns returns-2)

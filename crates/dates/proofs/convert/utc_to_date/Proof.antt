@@ -14,12 +14,6 @@ use borrow.Author.Needs.{needs}
 use Rattle.dates.proofs.convert.utc_to_date.Statement.{statement}
 use Rattle.dates.proofs.convert.utc_to_date.Tie as tie
 
-read-utc-requires : tie.Need-read-utc-requires
-read-utc-requires c κs = search needs
-
-enum-known-d : tie.Need-enum-known-d
-enum-known-d c = search needs
-
 -- what was read
 came : (c : tie.After-d) → let r = c .before .before in readUtc (r .before .before .before .args .utc .now) ≡ some (c .d .given .0 .0)
 came c = sym (rw (c .d .given .1) at (c .before .before .read-utc .ensures))
@@ -28,15 +22,6 @@ as-date-requires : tie.Need-as-date-requires
 as-date-requires c κs =
     let n = c .before .before in
     utc-date (n .before .before .before .before .before .args .utc .now) (n .d .given .0 .0) (came n)
-
-enum-told : tie.Need-enum-told
-enum-told c = search needs
-
-no-date-requires : tie.Need-no-date-requires
-no-date-requires c κs = search needs
-
-same-length : tie.Need-same-length
-same-length c = search needs
 
 returns : tie.Need-returns
 unfolding utcToDate converted
@@ -53,14 +38,5 @@ returns-2 c =
     ap (λ (w : DateWritten). told w (a .out .now)) (c .no-date .ensures) ∙ ap (λ (o : Option DateTime). converted dateText o (a .out .now)) (rw (c .before .enum-told .given .1) at (r .read-utc .ensures))
 
 pub utc-to-date-spec : {M : Type 1} → statement M
-utc-to-date-spec =
-    tie.close
-    (tie.spec
-    read-utc-requires
-    enum-known-d
-    as-date-requires
-    enum-told
-    no-date-requires
-    same-length
-    returns
-    returns-2)
+utc-to-date-spec = tie.close (tie.spec (λ c κs. search needs) (λ c. search needs) as-date-requires (λ c. search needs) (λ c κs. search needs)
+    (λ c. search needs) returns returns-2)

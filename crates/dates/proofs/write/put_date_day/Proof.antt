@@ -48,12 +48,4 @@ returns c =
     wrote-then (wrote-then (wrote-then (p .put-two .ensures) (q .put-byte .ensures)) (r .put-month .ensures)) (c .before .before .put-behind .ensures)
 
 pub put-date-day-spec : {M : Type 1} → statement M
-put-date-day-spec =
-    tie.close
-    (tie.spec
-    put-two-requires
-    put-byte-requires
-    put-month-requires
-    put-behind-requires
-    same-length
-    returns)
+put-date-day-spec = tie.close (tie.spec put-two-requires put-byte-requires put-month-requires put-behind-requires same-length returns)

@@ -9,18 +9,6 @@ use borrow.Author.Needs.{needs}
 use Rattle.dates.proofs.write.put_date_second.Statement.{statement}
 use Rattle.dates.proofs.write.put_date_second.Tie as tie
 
-enum-known-second : tie.Need-enum-known-second
-enum-known-second c = search needs
-
-put-behind-requires : tie.Need-put-behind-requires
-put-behind-requires c κs = search needs
-
-enum-told : tie.Need-enum-told
-enum-told c = search needs
-
-same-length : tie.Need-same-length
-same-length c = search needs
-
 returns : tie.Need-returns
 unfolding dateSecondText
 returns c =
@@ -36,4 +24,4 @@ returns-2 c =
 pub put-date-second-spec : {M : Type 1} → statement M
 put-date-second-spec =
     tie.close
-    (tie.spec enum-known-second put-behind-requires enum-told same-length returns returns-2)
+    (tie.spec (λ c. search needs) (λ c κs. search needs) (λ c. search needs) (λ c. search needs) returns returns-2)

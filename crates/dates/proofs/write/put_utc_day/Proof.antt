@@ -7,9 +7,6 @@ use borrow.Author.Needs.{needs}
 use Rattle.dates.proofs.write.put_utc_day.Statement.{statement}
 use Rattle.dates.proofs.write.put_utc_day.Tie as tie
 
-put-two-requires : tie.Need-put-two-requires
-put-two-requires c κs = search needs
-
 put-two-requires-2 : tie.Need-put-two-requires-2
 put-two-requires-2 c κs =
     let p = c .before .before .before in
@@ -23,9 +20,6 @@ put-two-requires-3 c κs =
     let s = p .before .before .before in
     omega (arith, s .pre, p .put-two .ensures .moved, q .put-two2 .ensures .moved, two-length (s .args .d .year), two-length (s .args .d .month), wrote-length (p .put-two .ensures), wrote-length (q .put-two2 .ensures))
 
-same-length : tie.Need-same-length
-same-length c = search needs
-
 returns : tie.Need-returns
 returns c =
     let q = c .before .before .before .before .before .before in
@@ -34,4 +28,4 @@ returns c =
 
 pub put-utc-day-spec : {M : Type 1} → statement M
 put-utc-day-spec =
-    tie.close (tie.spec put-two-requires put-two-requires-2 put-two-requires-3 same-length returns)
+    tie.close (tie.spec (λ c κs. search needs) put-two-requires-2 put-two-requires-3 (λ c. search needs) returns)

@@ -8,18 +8,6 @@ use borrow.Author.Needs.{needs}
 use Rattle.dates.proofs.write.put_utc_second.Statement.{statement}
 use Rattle.dates.proofs.write.put_utc_second.Tie as tie
 
-enum-known-second : tie.Need-enum-known-second
-enum-known-second c = search needs
-
-put-two-requires : tie.Need-put-two-requires
-put-two-requires c κs = search needs
-
-enum-told : tie.Need-enum-told
-enum-told c = search needs
-
-same-length : tie.Need-same-length
-same-length c = search needs
-
 returns : tie.Need-returns
 unfolding utcSecondText
 returns c =
@@ -34,4 +22,4 @@ returns-2 c =
 
 pub put-utc-second-spec : {M : Type 1} → statement M
 put-utc-second-spec =
-    tie.close (tie.spec enum-known-second put-two-requires enum-told same-length returns returns-2)
+    tie.close (tie.spec (λ c. search needs) (λ c κs. search needs) (λ c. search needs) (λ c. search needs) returns returns-2)

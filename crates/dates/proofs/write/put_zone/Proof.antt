@@ -72,16 +72,5 @@ returns c =
     (wrote-then (wrote-then (b .put-byte .ensures) (p .put-two .ensures)) (c .before .before .put-two2 .ensures))
 
 pub put-zone-spec : {M : Type 1} → statement M
-put-zone-spec =
-    tie.close
-    (tie.spec
-    div-hours
-    rem-minutes
-    sign-of-requires
-    put-byte-requires
-    size-of-requires
-    put-two-requires
-    size-of-requires-2
-    put-two-requires-2
-    same-length
-    returns)
+put-zone-spec = tie.close (tie.spec div-hours rem-minutes sign-of-requires put-byte-requires size-of-requires put-two-requires size-of-requires-2
+    put-two-requires-2 same-length returns)

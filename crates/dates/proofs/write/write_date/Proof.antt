@@ -87,14 +87,5 @@ returns c =
     (wrote-then (wrote-then (wrote-then (wrote-then (wrote-then (p .put-date-day .ensures) (q .put-behind .ensures)) (r .put-behind2 .ensures)) (u .put-date-second .ensures)) (b .put-byte .ensures)) (c .before .before .put-zone .ensures))
 
 pub write-date-spec : {M : Type 1} → statement M
-write-date-spec =
-    tie.close
-    (tie.spec
-    put-date-day-requires
-    put-behind-requires
-    put-behind-requires-2
-    put-date-second-requires
-    put-byte-requires
-    put-zone-requires
-    same-length
-    returns)
+write-date-spec = tie.close (tie.spec put-date-day-requires put-behind-requires put-behind-requires-2 put-date-second-requires put-byte-requires
+    put-zone-requires same-length returns)

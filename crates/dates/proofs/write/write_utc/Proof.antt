@@ -17,9 +17,6 @@ use borrow.Author.Needs.{needs}
 use Rattle.dates.proofs.write.write_utc.Statement.{statement}
 use Rattle.dates.proofs.write.write_utc.Tie as tie
 
-put-utc-day-requires : tie.Need-put-utc-day-requires
-put-utc-day-requires c κs = search needs
-
 put-two-requires : tie.Need-put-two-requires
 put-two-requires c κs =
     let p = c .before .before .before in
@@ -56,9 +53,6 @@ put-zone-requires c κs =
       omega (arith, s .pre .1, p .put-utc-day .ensures .moved, utc-day-length (d .year) (d .month) (d .day), wrote-length (p .put-utc-day .ensures), q .put-two .ensures .moved, two-length (d .hour), wrote-length (q .put-two .ensures), r .put-two2 .ensures .moved, two-length (d .minute), wrote-length (r .put-two2 .ensures), u .put-utc-second .ensures .moved, utc-second-length (d .second), wrote-length (u .put-utc-second .ensures)),
     )
 
-same-length : tie.Need-same-length
-same-length c = search needs
-
 returns : tie.Need-returns
 unfolding utcText
 returns c =
@@ -73,13 +67,5 @@ returns c =
     (wrote-then (wrote-then (wrote-then (wrote-then (p .put-utc-day .ensures) (q .put-two .ensures)) (r .put-two2 .ensures)) (u .put-utc-second .ensures)) (c .before .before .put-zone .ensures))
 
 pub write-utc-spec : {M : Type 1} → statement M
-write-utc-spec =
-    tie.close
-    (tie.spec
-    put-utc-day-requires
-    put-two-requires
-    put-two-requires-2
-    put-utc-second-requires
-    put-zone-requires
-    same-length
-    returns)
+write-utc-spec = tie.close (tie.spec (λ c κs. search needs) put-two-requires put-two-requires-2 put-utc-second-requires put-zone-requires
+    (λ c. search needs) returns)

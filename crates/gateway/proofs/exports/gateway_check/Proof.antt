@@ -14,15 +14,6 @@ use borrow.Author.Needs.{needs}
 use Rattle.gateway.proofs.exports.gateway_check.Statement.{statement}
 use Rattle.gateway.proofs.exports.gateway_check.Tie as tie
 
-check-requires : tie.Need-check-requires
-check-requires c κs = search needs
-
-enum-told : tie.Need-enum-told
-enum-told c = search needs
-
-enum-told-2 : tie.Need-enum-told-2
-enum-told-2 c = search needs
-
 -- the witness is canonical
 good : (c : tie.After-show-arg) → canonicalRecord (c .before .before .before .before .check .result .«record») ≡ true
 good c =
@@ -44,9 +35,6 @@ mul-result c = omega (arith, short (c .before .before))
 add-result : tie.Need-add-result
 add-result c = omega (arith, short (c .before .before))
 
-enum-known-answer : tie.Need-enum-known-answer
-enum-known-answer c = search needs
-
 -- the line's number is small
 line : (c : tie.After-answer) → let k = c .before .before .before in checkLine (k .check .result .answer) ≤ mostCount
 line c =
@@ -65,9 +53,6 @@ returns c =
     let a = k .before .before .before .args in
     tells-sound (loadedFrom (a .table .now)) (toldCheck (k .check .result)) (a .out .now) (k .check .ensures) (ap checkNumber (c .enum-told .given .1))
 
-same-length : tie.Need-same-length
-same-length c = search needs
-
 returns-2 : tie.Need-returns-2
 returns-2 c =
     let w = c .before .before in
@@ -84,19 +69,5 @@ returns-3 c =
     (tells-malformed (loadedFrom (a .table .now)) (toldCheck (k .check .result)) (a .out .now) (k .check .ensures) (ap checkNumber (c .before .answer .given .1)))
 
 pub gateway-check-spec : {M : Type 1} → statement M
-gateway-check-spec =
-    tie.close
-    (tie.spec
-    check-requires
-    enum-told
-    enum-told-2
-    show-requires
-    mul-result
-    add-result
-    enum-known-answer
-    mul-result-2
-    add-result-2
-    returns
-    same-length
-    returns-2
-    returns-3)
+gateway-check-spec = tie.close (tie.spec (λ c κs. search needs) (λ c. search needs) (λ c. search needs) show-requires mul-result add-result
+    (λ c. search needs) mul-result-2 add-result-2 returns (λ c. search needs) returns-2 returns-3)

@@ -6,11 +6,8 @@ use borrow.Author.Needs.{needs}
 use Rattle.gateway.proofs.exports.gateway_shared_tail.Statement.{statement}
 use Rattle.gateway.proofs.exports.gateway_shared_tail.Tie as tie
 
-shared-tail-requires : tie.Need-shared-tail-requires
-shared-tail-requires c κs = search needs
-
 returns : tie.Need-returns
 returns c = ap length (c .shared-tail .ensures)
 
 pub gateway-shared-tail-spec : {M : Type 1} → statement M
-gateway-shared-tail-spec = tie.close (tie.spec shared-tail-requires returns)
+gateway-shared-tail-spec = tie.close (tie.spec (λ c κs. search needs) returns)

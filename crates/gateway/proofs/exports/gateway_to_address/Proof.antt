@@ -7,20 +7,11 @@ use borrow.Author.Needs.{needs}
 use Rattle.gateway.proofs.exports.gateway_to_address.Statement.{statement}
 use Rattle.gateway.proofs.exports.gateway_to_address.Tie as tie
 
-read-record-requires : tie.Need-read-record-requires
-read-record-requires c κs = search needs
-
-to-address-requires : tie.Need-to-address-requires
-to-address-requires c κs = search needs
-
 pack-address-requires : tie.Need-pack-address-requires
 pack-address-requires c κs =
     let w = c .before .before in
     let a = w .before .before .before .before .before .before .before .args in
     address-counts (a .table .now) (w .before .before .before .read-record .result .«record») (a .out .now) (w .to-address .last .1 .1 .0) (w .to-address .result) (w .to-address .ensures)
-
-same-length : tie.Need-same-length
-same-length c = search needs
 
 returns : tie.Need-returns
 returns c =
@@ -32,4 +23,4 @@ returns c =
 
 pub gateway-to-address-spec : {M : Type 1} → statement M
 gateway-to-address-spec =
-    tie.close (tie.spec read-record-requires to-address-requires pack-address-requires same-length returns)
+    tie.close (tie.spec (λ c κs. search needs) (λ c κs. search needs) pack-address-requires (λ c. search needs) returns)

@@ -12,12 +12,6 @@ use borrow.Author.Needs.{needs}
 use Rattle.gateway.proofs.exports.gateway_to_record.Statement.{statement}
 use Rattle.gateway.proofs.exports.gateway_to_record.Tie as tie
 
-to-record-requires : tie.Need-to-record-requires
-to-record-requires c κs = search needs
-
-record-number-requires : tie.Need-record-number-requires
-record-number-requires c κs = search needs
-
 -- the record that is written is canonical
 good : (c : tie.After-write-canonical-arg) → canonicalRecord (c .before .before .before .before .to-record .result .«record») ≡ true
 good c =
@@ -37,9 +31,6 @@ pack-address-requires c κs =
     let a = t .before .before .before .before .args in
     text-counts (t .to-record .result .«record») (a .out .now) (w .write-canonical .last .1 .0) (w .write-canonical .result) (good g) (w .write-canonical .ensures)
 
-same-length : tie.Need-same-length
-same-length c = search needs
-
 returns : tie.Need-returns
 returns c =
     let w = c .before .before .before in
@@ -50,9 +41,6 @@ returns c =
     exported (addressToText (a .table .now) (a .address .now) (a .out .now)) (w .write-canonical .result) (c .pack-address .result) (w .write-canonical .last .1 .0)
     (w .write-canonical .ensures ∙ text-done (a .table .now) (a .address .now) (a .out .now) (t .to-record .result) (t .to-record .ensures) (n .result) (n .ensures) (g .before .before .if1 .taken))
     (c .pack-address .ensures)
-
-record-line-requires : tie.Need-record-line-requires
-record-line-requires c κs = search needs
 
 pack-requires : tie.Need-pack-requires
 pack-requires c κs =
@@ -73,15 +61,5 @@ returns-2 c =
     (c .pack .result) (c .pack .ensures ∙ ap (λ (k : ℕ). packedCount (n .result) k 0) (l .ensures))
 
 pub gateway-to-record-spec : {M : Type 1} → statement M
-gateway-to-record-spec =
-    tie.close
-    (tie.spec
-    to-record-requires
-    record-number-requires
-    write-canonical-requires
-    pack-address-requires
-    same-length
-    returns
-    record-line-requires
-    pack-requires
-    returns-2)
+gateway-to-record-spec = tie.close (tie.spec (λ c κs. search needs) (λ c κs. search needs) write-canonical-requires pack-address-requires
+    (λ c. search needs) returns (λ c κs. search needs) pack-requires returns-2)

@@ -8,12 +8,6 @@ use borrow.Author.Needs.{needs}
 use Rattle.gateway.proofs.exports.pack_address.Statement.{statement}
 use Rattle.gateway.proofs.exports.pack_address.Tie as tie
 
-address-number-requires : tie.Need-address-number-requires
-address-number-requires c κs = search needs
-
-address-line-requires : tie.Need-address-line-requires
-address-line-requires c κs = search needs
-
 pack-requires : tie.Need-pack-requires
 pack-requires c κs =
     let n = c .before .address-number in
@@ -25,4 +19,4 @@ unfolding toldAddress
 returns c = c .pack .ensures ∙ rw (c .before .before .address-number .ensures, c .before .address-line .ensures)
 
 pub pack-address-spec : {M : Type 1} → statement M
-pack-address-spec = tie.close (tie.spec address-number-requires address-line-requires pack-requires returns)
+pack-address-spec = tie.close (tie.spec (λ c κs. search needs) (λ c κs. search needs) pack-requires returns)

@@ -7,11 +7,8 @@ use borrow.Author.Needs.{needs}
 use Rattle.gateway_text.proofs.read.no_record.Statement.{statement}
 use Rattle.gateway_text.proofs.read.no_record.Tie as tie
 
-empty-requires : tie.Need-empty-requires
-empty-requires c κs = search needs
-
 returns : tie.Need-returns
 returns c = ap (λ (r : Record). record { «record» = r; answer = Refused }) (c .empty .ensures)
 
 pub no-record-spec : {M : Type 1} → statement M
-no-record-spec = tie.close (tie.spec empty-requires returns)
+no-record-spec = tie.close (tie.spec (λ c κs. search needs) returns)

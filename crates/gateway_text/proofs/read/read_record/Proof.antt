@@ -11,36 +11,6 @@ use borrow.Author.Needs.{needs}
 use Rattle.gateway_text.proofs.read.read_record.Statement.{statement}
 use Rattle.gateway_text.proofs.read.read_record.Tie as tie
 
-empty-requires : tie.Need-empty-requires
-empty-requires c κs = search needs
-
-read-text-requires : tie.Need-read-text-requires
-read-text-requires c κs = search needs
-
-enum-told : tie.Need-enum-told
-enum-told c = search needs
-
-if-canonical-requires : tie.Need-if-canonical-requires
-if-canonical-requires c κs = search needs
-
-enum-told-2 : tie.Need-enum-told-2
-enum-told-2 c = search needs
-
-no-record-requires : tie.Need-no-record-requires
-no-record-requires c κs = search needs
-
-enum-told-3 : tie.Need-enum-told-3
-enum-told-3 c = search needs
-
-no-record-requires-2 : tie.Need-no-record-requires-2
-no-record-requires-2 c κs = search needs
-
-enum-told-4 : tie.Need-enum-told-4
-enum-told-4 c = search needs
-
-no-record-requires-3 : tie.Need-no-record-requires-3
-no-record-requires-3 c κs = search needs
-
 returns : tie.Need-returns
 unfolding reading
 returns c =
@@ -74,20 +44,5 @@ returns-4 c =
     ∙ read-outcome (t .before .empty .result) (t .before .before .before .args .text .now) x again (t .before .empty .ensures) (t .read-text .ensures) (ap (λ (y : Answer). answered y (x .«record»)) (c .before .enum-told4 .given .1))
 
 pub read-record-spec : {M : Type 1} → statement M
-read-record-spec =
-    tie.close
-    (tie.spec
-    empty-requires
-    read-text-requires
-    enum-told
-    if-canonical-requires
-    enum-told-2
-    no-record-requires
-    enum-told-3
-    no-record-requires-2
-    enum-told-4
-    no-record-requires-3
-    returns
-    returns-2
-    returns-3
-    returns-4)
+read-record-spec = tie.close (tie.spec (λ c κs. search needs) (λ c κs. search needs) (λ c. search needs) (λ c κs. search needs) (λ c. search needs)
+    (λ c κs. search needs) (λ c. search needs) (λ c κs. search needs) (λ c. search needs) (λ c κs. search needs) returns returns-2 returns-3 returns-4)

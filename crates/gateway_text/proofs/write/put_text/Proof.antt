@@ -18,9 +18,6 @@ write-text-requires c κs =
     let s = c .before .before in
     omega (arith, text-bound (view (s .args .rec)) (canonical-view (s .args .rec) (s .pre .1)) 0, s .pre .0)
 
-same-length : tie.Need-same-length
-same-length c = search needs
-
 returns : tie.Need-returns
 unfolding remaining
 returns c =
@@ -33,4 +30,4 @@ returns c =
     }
 
 pub put-text-spec : {M : Type 1} → statement M
-put-text-spec = tie.close (tie.spec write-text-requires same-length returns)
+put-text-spec = tie.close (tie.spec write-text-requires (λ c. search needs) returns)

@@ -11,25 +11,10 @@ use borrow.Author.Needs.{needs}
 use Rattle.gateway_text.proofs.write.show.Statement.{statement}
 use Rattle.gateway_text.proofs.write.show.Tie as tie
 
-slice-aggregate-put-text : tie.Need-slice-aggregate-put-text
-slice-aggregate-put-text c = search needs
-
-put-text-requires : tie.Need-put-text-requires
-put-text-requires c κs = search needs
-
-array-share-prefix-text : tie.Need-array-share-prefix-text
-array-share-prefix-text c = search needs
-
 slice-aggregate-fill : tie.Need-slice-aggregate-fill
 slice-aggregate-fill c =
     let t = c .before .before .before .put-text in
     sym (length-take-le (t .result) (t .last .0) (t .ensures .fits))
-
-fill-requires : tie.Need-fill-requires
-fill-requires c κs = search needs
-
-same-length : tie.Need-same-length
-same-length c = search needs
 
 returns : tie.Need-returns
 returns c =
@@ -42,13 +27,5 @@ returns c =
     }
 
 pub show-spec : {M : Type 1} → statement M
-show-spec =
-    tie.close
-    (tie.spec
-    slice-aggregate-put-text
-    put-text-requires
-    array-share-prefix-text
-    slice-aggregate-fill
-    fill-requires
-    same-length
-    returns)
+show-spec = tie.close (tie.spec (λ c. search needs) (λ c κs. search needs) (λ c. search needs) slice-aggregate-fill (λ c κs. search needs)
+    (λ c. search needs) returns)

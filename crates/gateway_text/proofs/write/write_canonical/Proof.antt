@@ -10,25 +10,10 @@ use borrow.Author.Needs.{needs}
 use Rattle.gateway_text.proofs.write.write_canonical.Statement.{statement}
 use Rattle.gateway_text.proofs.write.write_canonical.Tie as tie
 
-slice-aggregate-put-text : tie.Need-slice-aggregate-put-text
-slice-aggregate-put-text c = search needs
-
-put-text-requires : tie.Need-put-text-requires
-put-text-requires c κs = search needs
-
-array-share-prefix-text : tie.Need-array-share-prefix-text
-array-share-prefix-text c = search needs
-
 slice-aggregate-place : tie.Need-slice-aggregate-place
 slice-aggregate-place c =
     let t = c .before .before .before .put-text in
     sym (length-take-le (t .result) (t .last .0) (t .ensures .fits))
-
-place-requires : tie.Need-place-requires
-place-requires c κs = search needs
-
-same-length : tie.Need-same-length
-same-length c = search needs
 
 returns : tie.Need-returns
 returns c =
@@ -37,13 +22,5 @@ returns c =
     c .before .before .place .ensures ∙ ap (λ (s : List ℕ). placed s (a .out .now)) (sym (Option·some-injective _ _ (t .ensures .told)))
 
 pub write-canonical-spec : {M : Type 1} → statement M
-write-canonical-spec =
-    tie.close
-    (tie.spec
-    slice-aggregate-put-text
-    put-text-requires
-    array-share-prefix-text
-    slice-aggregate-place
-    place-requires
-    same-length
-    returns)
+write-canonical-spec = tie.close (tie.spec (λ c. search needs) (λ c κs. search needs) (λ c. search needs) slice-aggregate-place (λ c κs. search needs)
+    (λ c. search needs) returns)

@@ -38,12 +38,4 @@ returns-2 c =
     rw (sym (i .ensures) ∙ not-false (i .result) (c .before .before .before .before .if1 .left)) (c .before .before .write-canonical .ensures)
 
 pub write-record-spec : {M : Type 1} → statement M
-write-record-spec =
-    tie.close
-    (tie.spec
-    is-canonical-requires
-    refused-requires
-    returns
-    write-canonical-requires
-    same-length
-    returns-2)
+write-record-spec = tie.close (tie.spec is-canonical-requires refused-requires returns write-canonical-requires same-length returns-2)

@@ -8,9 +8,6 @@ use Rattle.lexical.specs.Comment.{contentStep}
 use Rattle.lexical.proofs.comment.content_step.Statement.{statement}
 use Rattle.lexical.proofs.comment.content_step.Tie as tie
 
-shared-slice-read-b : tie.Need-shared-slice-read-b
-shared-slice-read-b c = search needs
-
 returns : tie.Need-returns
 unfolding contentStep
 returns c =
@@ -24,9 +21,6 @@ returns-2 c =
     let x = getD (a .s .now) (a .i) 0 in
     rw (ne-eqb x 41 (c .before .if1 .left), eq-eqb x 40 (c .if2 .taken))
 
-pair-step-requires : tie.Need-pair-step-requires
-pair-step-requires c κs = search needs
-
 returns-3 : tie.Need-returns-3
 unfolding contentStep
 returns-3 c =
@@ -35,9 +29,6 @@ returns-3 c =
     let x = getD (a .s .now) (a .i) 0 in
     rw (ne-eqb x 41 (d .before .before .if1 .left), ne-eqb x 40 (d .before .if2 .left), eq-eqb x 92 (d .if3 .taken)) (c .pair-step .ensures)
 
-is-fold-requires : tie.Need-is-fold-requires
-is-fold-requires c κs = search needs
-
 returns-4 : tie.Need-returns-4
 unfolding contentStep
 returns-4 c =
@@ -45,9 +36,6 @@ returns-4 c =
     let a = d .before .before .before .before .before .args in
     let x = getD (a .s .now) (a .i) 0 in
     rw (ne-eqb x 41 (d .before .before .if1 .left), ne-eqb x 40 (d .before .if2 .left), ne-eqb x 92 (d .if3 .left), sym (c .before .is-fold .ensures) ∙ c .if4 .taken)
-
-is-ctext-requires : tie.Need-is-ctext-requires
-is-ctext-requires c κs = search needs
 
 returns-5 : tie.Need-returns-5
 unfolding contentStep
@@ -68,16 +56,5 @@ returns-6 c =
     rw (sym (c .before .is-ctext .ensures) ∙ c .if5 .left, ne-eqb x 41 (d .before .before .if1 .left), ne-eqb x 40 (d .before .if2 .left), ne-eqb x 92 (d .if3 .left), sym (f .before .is-fold .ensures) ∙ f .if4 .left)
 
 pub content-step-spec : {M : Type 1} → statement M
-content-step-spec =
-    tie.close
-    (tie.spec
-    shared-slice-read-b
-    returns
-    returns-2
-    pair-step-requires
-    returns-3
-    is-fold-requires
-    returns-4
-    is-ctext-requires
-    returns-5
-    returns-6)
+content-step-spec = tie.close (tie.spec (λ c. search needs) returns returns-2 (λ c κs. search needs) returns-3 (λ c κs. search needs) returns-4
+    (λ c κs. search needs) returns-5 returns-6)

@@ -9,12 +9,6 @@ use Rattle.lexical.specs.Comment.{pairStep}
 use Rattle.lexical.proofs.comment.pair_step.Statement.{statement}
 use Rattle.lexical.proofs.comment.pair_step.Tie as tie
 
-add-byte-at : tie.Need-add-byte-at
-add-byte-at c = search needs
-
-byte-at-requires : tie.Need-byte-at-requires
-byte-at-requires c κs = search needs
-
 returns : tie.Need-returns
 unfolding pairStep
 returns c =
@@ -28,4 +22,4 @@ returns-2 c =
     rw (lt-leb (getD (a .s .now) (a .i + 1) 0) 127 (omega (arith, c .before .byte-at .ensures)))
 
 pub pair-step-spec : {M : Type 1} → statement M
-pair-step-spec = tie.close (tie.spec add-byte-at byte-at-requires returns returns-2)
+pair-step-spec = tie.close (tie.spec (λ c. search needs) (λ c κs. search needs) returns returns-2)

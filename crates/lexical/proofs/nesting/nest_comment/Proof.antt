@@ -16,18 +16,12 @@ returns c =
     let e : suc (a .depth - 1) ≡ a .depth = omega arith in
     rw (eq-eqb (a .b) 92 (c .if1 .taken), e)
 
-add-t4 : tie.Need-add-t4
-add-t4 c = search needs
-
 returns-2 : tie.Need-returns-2
 unfolding nestComment
 returns-2 c =
     let a = c .before .before .args in
     let e : suc (suc (a .depth - 1)) ≡ a .depth + 1 = omega arith in
     rw (ne-eqb (a .b) 92 (c .before .if1 .left), eq-eqb (a .b) 40 (c .if2 .taken), e)
-
-sub-t5 : tie.Need-sub-t5
-sub-t5 c = search needs
 
 returns-3 : tie.Need-returns-3
 unfolding nestComment
@@ -43,4 +37,4 @@ returns-4 c =
     rw (ne-eqb (a .b) 92 (c .before .before .if1 .left), ne-eqb (a .b) 40 (c .before .if2 .left), ne-eqb (a .b) 41 (c .if3 .left), e)
 
 pub nest-comment-spec : {M : Type 1} → statement M
-nest-comment-spec = tie.close (tie.spec returns add-t4 returns-2 sub-t5 returns-3 returns-4)
+nest-comment-spec = tie.close (tie.spec returns (λ c. search needs) returns-2 (λ c. search needs) returns-3 returns-4)

@@ -8,22 +8,13 @@ use Rattle.lexical.proofs.Laws.Nesting.{in-comment}
 use Rattle.lexical.proofs.nesting.nest_step.Statement.{statement}
 use Rattle.lexical.proofs.nesting.nest_step.Tie as tie
 
-nest-quoted-requires : tie.Need-nest-quoted-requires
-nest-quoted-requires c κs = search needs
-
 returns : tie.Need-returns
 unfolding nestOf
 returns c = rw (c .before .if1 .taken) (c .nest-quoted .ensures)
 
-nest-outside-requires : tie.Need-nest-outside-requires
-nest-outside-requires c κs = search needs
-
 returns-2 : tie.Need-returns-2
 unfolding nestOf
 returns-2 c = rw (c .before .before .if1 .left, c .before .if2 .taken) (c .nest-outside .ensures)
-
-nest-comment-requires : tie.Need-nest-comment-requires
-nest-comment-requires c κs = search needs
 
 returns-3 : tie.Need-returns-3
 unfolding nestOf
@@ -32,12 +23,4 @@ returns-3 c =
     c .nest-comment .ensures ∙ sym (rw (c .before .before .if1 .left) (in-comment (a .b) (a .depth) (omega arith)))
 
 pub nest-step-spec : {M : Type 1} → statement M
-nest-step-spec =
-    tie.close
-    (tie.spec
-    nest-quoted-requires
-    returns
-    nest-outside-requires
-    returns-2
-    nest-comment-requires
-    returns-3)
+nest-step-spec = tie.close (tie.spec (λ c κs. search needs) returns (λ c κs. search needs) returns-2 (λ c κs. search needs) returns-3)

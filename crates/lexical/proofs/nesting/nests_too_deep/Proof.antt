@@ -62,17 +62,5 @@ returns-2 c =
     sym (at .loop .inv .0 ∙ nest-end (at .before .before .args .s .now) (at .loop .i) (at .loop .quote) (at .loop .depth) (at .loop .inv .1) (omega arith))
 
 pub nests-too-deep-spec : {M : Type 1} → statement M
-nests-too-deep-spec =
-    tie.close
-    (tie.spec
-    Inv-loop
-    μ-loop
-    loop-holds
-    shared-slice-read-nest-step
-    nest-step-requires
-    returns
-    add-i
-    add-i-2
-    loop-less
-    loop-again
-    returns-2)
+nests-too-deep-spec = tie.close (tie.spec Inv-loop μ-loop loop-holds shared-slice-read-nest-step nest-step-requires returns add-i add-i-2 loop-less
+    loop-again returns-2)

@@ -48,19 +48,10 @@ done {o} {n} {t} {r} {k} {j} m h e = record { moved = omega (arith, ap length e)
 loop-holds : tie.Need-loop-holds Inv-loop μ-loop
 loop-holds c = (search needs, refl, refl, refl)
 
-quoted-step-requires : tie.Need-quoted-step-requires Inv-loop μ-loop
-quoted-step-requires c κs = omega arith
-
-enum-told : tie.Need-enum-told Inv-loop μ-loop
-enum-told c = search needs
-
 add-i : tie.Need-add-i Inv-loop μ-loop
 add-i c =
     let at = c .before .before .before .before in
     omega (arith, fold-inside (at .before .before .before .args .s .now) (at .loop .i) (at .loop .escaped) (step (c .before .before) Fold (c .enum-told .given .1)))
-
-loop-less : tie.Need-loop-less Inv-loop μ-loop
-loop-less c = omega arith
 
 loop-again : tie.Need-loop-again Inv-loop μ-loop
 loop-again c =
@@ -68,9 +59,6 @@ loop-again c =
     let l = at .loop in
     let p = left-fold (at .before .before .before .args .s .now) (l .i) (l .escaped) (omega arith) (l .inv .0) (step (c .before .before) Fold (c .enum-told .given .1)) in
     (p .closes, l .inv .1, omega (arith, l .inv .2, ap length (p .text)), l .inv .3 ∙ rw (p .text))
-
-enum-told-2 : tie.Need-enum-told-2 Inv-loop μ-loop
-enum-told-2 c = search needs
 
 same-length : tie.Need-same-length Inv-loop μ-loop
 same-length c = c .before .before .before .before .loop .inv .1
@@ -82,27 +70,12 @@ returns c =
     done (l .inv .2) (l .inv .3)
     (left-close (at .before .before .before .args .s .now) (l .i) (l .escaped) (omega arith) (step (c .before .before) Close (c .enum-told2 .given .1)))
 
-enum-told-3 : tie.Need-enum-told-3 Inv-loop μ-loop
-enum-told-3 c = search needs
-
-add-i-2 : tie.Need-add-i-2 Inv-loop μ-loop
-add-i-2 c = omega arith
-
-loop-less-2 : tie.Need-loop-less-2 Inv-loop μ-loop
-loop-less-2 c = omega arith
-
 loop-again-2 : tie.Need-loop-again-2 Inv-loop μ-loop
 loop-again-2 c =
     let at = c .before .before .before .before in
     let l = at .loop in
     let p = left-escape (at .before .before .before .args .s .now) (l .i) (l .escaped) (omega arith) (l .inv .0) (step (c .before .before) Escape (c .enum-told3 .given .1)) in
     (p .closes, l .inv .1, omega (arith, l .inv .2, ap length (p .text)), l .inv .3 ∙ rw (p .text))
-
-enum-told-4 : tie.Need-enum-told-4 Inv-loop μ-loop
-enum-told-4 c = search needs
-
-shared-slice-read-dst : tie.Need-shared-slice-read-dst Inv-loop μ-loop
-shared-slice-read-dst c = omega arith
 
 slice-write-dst : tie.Need-slice-write-dst Inv-loop μ-loop
 slice-write-dst c =
@@ -114,20 +87,11 @@ add-next c =
     let at = c .before .before .before .before .before in
     omega (arith, at .before .before .before .pre .1, at .loop .inv .1, at .loop .inv .2, ap length (kept (c .before) .text))
 
-add-i-3 : tie.Need-add-i-3 Inv-loop μ-loop
-add-i-3 c = omega arith
-
-loop-less-3 : tie.Need-loop-less-3 Inv-loop μ-loop
-loop-less-3 c = omega arith
-
 loop-again-3 : tie.Need-loop-again-3 Inv-loop μ-loop
 loop-again-3 c =
     let l = c .before .before .before .before .before .loop in
     let p = kept (c .before) in
     (p .closes, simp length-set (l .inv .1), omega (arith, l .inv .2, ap length (p .text)), l .inv .3 ∙ rw (p .text, add-one (l .next)))
-
-enum-told-5 : tie.Need-enum-told-5 Inv-loop μ-loop
-enum-told-5 c = search needs
 
 same-length-2 : tie.Need-same-length-2 Inv-loop μ-loop
 same-length-2 c = c .before .before .before .before .loop .inv .1
@@ -148,33 +112,7 @@ returns-3 c =
     done (l .inv .2) (l .inv .3) (left-end (c .before .before .before .before .args .s .now) (l .i) (l .escaped) (omega arith))
 
 pub put-quoted-spec : {M : Type 1} → statement M
-put-quoted-spec =
-    tie.close
-    (tie.spec
-    Inv-loop
-    μ-loop
-    loop-holds
-    quoted-step-requires
-    enum-told
-    add-i
-    loop-less
-    loop-again
-    enum-told-2
-    same-length
-    returns
-    enum-told-3
-    add-i-2
-    loop-less-2
-    loop-again-2
-    enum-told-4
-    shared-slice-read-dst
-    slice-write-dst
-    add-next
-    add-i-3
-    loop-less-3
-    loop-again-3
-    enum-told-5
-    same-length-2
-    returns-2
-    same-length-3
-    returns-3)
+put-quoted-spec = tie.close (tie.spec Inv-loop μ-loop loop-holds (λ c κs. omega arith) (λ c. search needs) add-i (λ c. omega arith) loop-again
+    (λ c. search needs) same-length returns (λ c. search needs) (λ c. omega arith) (λ c. omega arith) loop-again-2 (λ c. search needs)
+    (λ c. omega arith) slice-write-dst add-next (λ c. omega arith) (λ c. omega arith) loop-again-3 (λ c. search needs) same-length-2 returns-2
+    same-length-3 returns-3)

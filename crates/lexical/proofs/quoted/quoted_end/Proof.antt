@@ -29,31 +29,16 @@ step c t e = sym (c .quoted-step .ensures) ∙ e
 loop-holds : tie.Need-loop-holds Inv-loop μ-loop
 loop-holds c = refl
 
-quoted-step-requires : tie.Need-quoted-step-requires Inv-loop μ-loop
-quoted-step-requires c κs = omega arith
-
-enum-told : tie.Need-enum-told Inv-loop μ-loop
-enum-told c = search needs
-
 add-i : tie.Need-add-i Inv-loop μ-loop
 add-i c =
     let at = c .before .before .before .before in
     omega (arith, fold-inside (at .before .before .args .s .now) (at .loop .i) (at .loop .escaped) (step (c .before .before) Fold (c .enum-told .given .1)))
-
-loop-less : tie.Need-loop-less Inv-loop μ-loop
-loop-less c = omega arith
 
 loop-again : tie.Need-loop-again Inv-loop μ-loop
 loop-again c =
     let at = c .before .before .before .before in
     let a = at .before .before .args in
     at .loop .inv ∙ end-fold (a .s .now) (at .loop .i) (at .loop .escaped) (omega arith) (step (c .before .before) Fold (c .enum-told .given .1))
-
-enum-told-2 : tie.Need-enum-told-2 Inv-loop μ-loop
-enum-told-2 c = search needs
-
-add-t8 : tie.Need-add-t8 Inv-loop μ-loop
-add-t8 c = omega arith
 
 returns : tie.Need-returns Inv-loop μ-loop
 unfolding closingAnswer
@@ -62,38 +47,17 @@ returns c =
     let a = at .before .before .args in
     sym (at .loop .inv ∙ end-close (a .s .now) (at .loop .i) (at .loop .escaped) (omega arith) (step (c .before .before) Close (c .enum-told2 .given .1)))
 
-enum-told-3 : tie.Need-enum-told-3 Inv-loop μ-loop
-enum-told-3 c = search needs
-
-add-i-2 : tie.Need-add-i-2 Inv-loop μ-loop
-add-i-2 c = omega arith
-
-loop-less-2 : tie.Need-loop-less-2 Inv-loop μ-loop
-loop-less-2 c = omega arith
-
 loop-again-2 : tie.Need-loop-again-2 Inv-loop μ-loop
 loop-again-2 c =
     let at = c .before .before .before .before in
     let a = at .before .before .args in
     at .loop .inv ∙ end-escape (a .s .now) (at .loop .i) (at .loop .escaped) (omega arith) (step (c .before .before) Escape (c .enum-told3 .given .1))
 
-enum-told-4 : tie.Need-enum-told-4 Inv-loop μ-loop
-enum-told-4 c = search needs
-
-add-i-3 : tie.Need-add-i-3 Inv-loop μ-loop
-add-i-3 c = omega arith
-
-loop-less-3 : tie.Need-loop-less-3 Inv-loop μ-loop
-loop-less-3 c = omega arith
-
 loop-again-3 : tie.Need-loop-again-3 Inv-loop μ-loop
 loop-again-3 c =
     let at = c .before .before .before .before in
     let a = at .before .before .args in
     at .loop .inv ∙ end-keep (a .s .now) (at .loop .i) (at .loop .escaped) (omega arith) (step (c .before .before) Keep (c .enum-told4 .given .1))
-
-enum-told-5 : tie.Need-enum-told-5 Inv-loop μ-loop
-enum-told-5 c = search needs
 
 returns-2 : tie.Need-returns-2 Inv-loop μ-loop
 unfolding closingAnswer
@@ -107,28 +71,6 @@ unfolding closingAnswer
 returns-3 c = sym (c .before .loop .inv ∙ end-end (c .before .before .before .args .s .now) (c .before .loop .i) (c .before .loop .escaped) (omega arith))
 
 pub quoted-end-spec : {M : Type 1} → statement M
-quoted-end-spec =
-    tie.close
-    (tie.spec
-    Inv-loop
-    μ-loop
-    loop-holds
-    quoted-step-requires
-    enum-told
-    add-i
-    loop-less
-    loop-again
-    enum-told-2
-    add-t8
-    returns
-    enum-told-3
-    add-i-2
-    loop-less-2
-    loop-again-2
-    enum-told-4
-    add-i-3
-    loop-less-3
-    loop-again-3
-    enum-told-5
-    returns-2
-    returns-3)
+quoted-end-spec = tie.close (tie.spec Inv-loop μ-loop loop-holds (λ c κs. omega arith) (λ c. search needs) add-i (λ c. omega arith) loop-again
+    (λ c. search needs) (λ c. omega arith) returns (λ c. search needs) (λ c. omega arith) (λ c. omega arith) loop-again-2 (λ c. search needs)
+    (λ c. omega arith) (λ c. omega arith) loop-again-3 (λ c. search needs) returns-2 returns-3)

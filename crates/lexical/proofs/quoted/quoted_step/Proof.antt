@@ -53,15 +53,5 @@ returns-5 c =
     (c .text-step2 .ensures)
 
 pub quoted-step-spec : {M : Type 1} → statement M
-quoted-step-spec =
-    tie.close
-    (tie.spec
-    shared-slice-read-b
-    is-fold-requires
-    returns
-    text-step-requires
-    returns-2
-    returns-3
-    returns-4
-    text-step-requires-2
-    returns-5)
+quoted-step-spec = tie.close (tie.spec shared-slice-read-b is-fold-requires returns text-step-requires returns-2 returns-3 returns-4
+    text-step-requires-2 returns-5)

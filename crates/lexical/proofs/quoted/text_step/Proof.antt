@@ -6,9 +6,6 @@ use borrow.Author.Needs.{needs}
 use Rattle.lexical.proofs.quoted.text_step.Statement.{statement}
 use Rattle.lexical.proofs.quoted.text_step.Tie as tie
 
-is-quoted-byte-requires : tie.Need-is-quoted-byte-requires
-is-quoted-byte-requires c κs = search needs
-
 returns : tie.Need-returns
 unfolding textStep
 returns c = rw (sym (c .before .is-quoted-byte .ensures) ∙ c .if1 .taken)
@@ -18,4 +15,4 @@ unfolding textStep
 returns-2 c = rw (sym (c .before .is-quoted-byte .ensures) ∙ c .if1 .left)
 
 pub text-step-spec : {M : Type 1} → statement M
-text-step-spec = tie.close (tie.spec is-quoted-byte-requires returns returns-2)
+text-step-spec = tie.close (tie.spec (λ c κs. search needs) returns returns-2)

@@ -82,17 +82,5 @@ returns-4 : tie.Need-returns-4
 returns-4 c = omega (arith, ends c)
 
 pub gap-size-spec : {M : Type 1} → statement M
-gap-size-spec =
-    tie.close
-    (tie.spec
-    shared-slice-read-is-space
-    is-space-requires
-    returns
-    is-fold-requires
-    returns-2
-    comment-requires
-    enum-known-end
-    enum-told
-    returns-3
-    sub-result
-    returns-4)
+gap-size-spec = tie.close (tie.spec shared-slice-read-is-space is-space-requires returns is-fold-requires returns-2 comment-requires enum-known-end
+    enum-told returns-3 sub-result returns-4)

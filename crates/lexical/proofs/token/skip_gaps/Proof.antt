@@ -27,9 +27,6 @@ inside c =
 loop-holds : tie.Need-loop-holds Inv-loop μ-loop
 loop-holds c = (omega arith, search needs, refl)
 
-gap-size-requires : tie.Need-gap-size-requires Inv-loop μ-loop
-gap-size-requires c κs = search needs
-
 returns : tie.Need-returns Inv-loop μ-loop
 returns c =
     let l = c .before .before .before .loop in
@@ -57,15 +54,4 @@ returns-2 c =
     record { low = l .inv .0; high = l .inv .1; same = l .inv .2; stops = rw (drop-of-length-le s h) }
 
 pub skip-gaps-spec : {M : Type 1} → statement M
-skip-gaps-spec =
-    tie.close
-    (tie.spec
-    Inv-loop
-    μ-loop
-    loop-holds
-    gap-size-requires
-    returns
-    add-i
-    loop-less
-    loop-again
-    returns-2)
+skip-gaps-spec = tie.close (tie.spec Inv-loop μ-loop loop-holds (λ c κs. search needs) returns add-i loop-less loop-again returns-2)

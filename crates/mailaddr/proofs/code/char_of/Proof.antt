@@ -8,9 +8,6 @@ use Rattle.mailaddr.specs.Code.{charOf, indexOf}
 use Rattle.mailaddr.proofs.code.char_of.Statement.{statement}
 use Rattle.mailaddr.proofs.code.char_of.Tie as tie
 
-fold-case-requires : tie.Need-fold-case-requires
-fold-case-requires c κs = search needs
-
 returns : tie.Need-returns
 unfolding charOf indexOf bytes
 returns c = rw (sym (c .before .fold-case .ensures) ∙ c .match .keys1)
@@ -46,15 +43,4 @@ returns-8 c =
     rw (sym (c .before .fold-case .ensures), ne-eqb l 97 (c .match .rest .0 .0 .0 .0 .0 .0 .1), ne-eqb l 112 (c .match .rest .0 .0 .0 .0 .0 .1), ne-eqb l 98 (c .match .rest .0 .0 .0 .0 .1), ne-eqb l 113 (c .match .rest .0 .0 .0 .1), ne-eqb l 117 (c .match .rest .0 .0 .1), ne-eqb l 108 (c .match .rest .0 .1), ne-eqb l 114 (c .match .rest .1))
 
 pub char-of-spec : {M : Type 1} → statement M
-char-of-spec =
-    tie.close
-    (tie.spec
-    fold-case-requires
-    returns
-    returns-2
-    returns-3
-    returns-4
-    returns-5
-    returns-6
-    returns-7
-    returns-8)
+char-of-spec = tie.close (tie.spec (λ c κs. search needs) returns returns-2 returns-3 returns-4 returns-5 returns-6 returns-7 returns-8)

@@ -66,15 +66,5 @@ returns-5 c =
     record { fits = omega arith; holds = rw (no-letter (p .before .before), printable p, c .if3 .left) }
 
 pub code-char-spec : {M : Type 1} → statement M
-code-char-spec =
-    tie.close
-    (tie.spec
-    letter-of-requires
-    returns
-    is-printable-requires
-    numbered-requires
-    returns-2
-    numbered-requires-2
-    returns-3
-    returns-4
-    returns-5)
+code-char-spec = tie.close (tie.spec letter-of-requires returns is-printable-requires numbered-requires returns-2 numbered-requires-2 returns-3
+    returns-4 returns-5)

@@ -21,21 +21,12 @@ loop-holds c =
     let a = c .before .before .args in
     (omega arith, omega arith, refl, decoding-start (a .s .now) (a .dst .now))
 
-group-at-requires : tie.Need-group-at-requires Inv-loop μ-loop
-group-at-requires c κs = omega arith
-
 same-length : tie.Need-same-length Inv-loop μ-loop
 same-length c = c .before .before .before .loop .inv .2
 
 returns : tie.Need-returns Inv-loop μ-loop
 unfolding Decoding
 returns c = decoding-none (c .before .before .before .loop .inv .3) (c .before .group-at .ensures) (c .if1 .taken)
-
-slice-write-dst : tie.Need-slice-write-dst Inv-loop μ-loop
-slice-write-dst c = omega arith
-
-add-n : tie.Need-add-n Inv-loop μ-loop
-add-n c = omega arith
 
 add-i : tie.Need-add-i Inv-loop μ-loop
 add-i c = omega (arith, c .before .group-at .ensures .fits)
@@ -56,19 +47,5 @@ unfolding Decoding
 returns-2 c = decoding-end (c .before .loop .inv .3) (omega arith) (omega arith)
 
 pub decode-spec : {M : Type 1} → statement M
-decode-spec =
-    tie.close
-    (tie.spec
-    Inv-loop
-    μ-loop
-    loop-holds
-    group-at-requires
-    same-length
-    returns
-    slice-write-dst
-    add-n
-    add-i
-    loop-less
-    loop-again
-    same-length-2
-    returns-2)
+decode-spec = tie.close (tie.spec Inv-loop μ-loop loop-holds (λ c κs. omega arith) same-length returns (λ c. omega arith) (λ c. omega arith) add-i
+    loop-less loop-again same-length-2 returns-2)

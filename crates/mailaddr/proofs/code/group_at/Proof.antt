@@ -98,20 +98,5 @@ returns-6 c =
     record { fits = omega arith; holds = rw (front-there s i (omega arith), e) (group-number (getD s i 0) (drop (i + 1) s) (sym (b .byte-at .ensures) ∙ d .before .if2 .left) (sym (d .letter-at .ensures) ∙ c .before .before .before .before .if3 .left) (close-there s i ∙ sym (c .before .before .before .byte-at2 .ensures) ∙ c .before .before .if4 .left) (omega (arith, e))) }
 
 pub group-at-spec : {M : Type 1} → statement M
-group-at-spec =
-    tie.close
-    (tie.spec
-    byte-at-requires
-    returns
-    returns-2
-    add-letter-at
-    letter-at-requires
-    returns-3
-    add-byte-at
-    byte-at-requires-2
-    returns-4
-    add-number-at
-    number-at-requires
-    returns-5
-    cast-t8
-    returns-6)
+group-at-spec = tie.close (tie.spec byte-at-requires returns returns-2 add-letter-at letter-at-requires returns-3 add-byte-at byte-at-requires-2
+    returns-4 add-number-at number-at-requires returns-5 cast-t8 returns-6)

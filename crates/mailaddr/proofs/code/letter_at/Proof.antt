@@ -10,23 +10,11 @@ use Rattle.mailaddr.proofs.Laws.Code.{letter-there}
 use Rattle.mailaddr.proofs.code.letter_at.Statement.{statement}
 use Rattle.mailaddr.proofs.code.letter_at.Tie as tie
 
-add-byte-at : tie.Need-add-byte-at
-add-byte-at c = search needs
-
-byte-at-requires : tie.Need-byte-at-requires
-byte-at-requires c κs = search needs
-
 returns : tie.Need-returns
 returns c =
     let a = c .before .before .before .args in
     let s = a .s .now in
     rw (letter-there s (a .at), ne-eqb (getD s (a .at + 1) 0) 41 (λ q. c .if1 .taken (c .before .byte-at .ensures ∙ q)))
-
-byte-at-requires-2 : tie.Need-byte-at-requires-2
-byte-at-requires-2 c κs = search needs
-
-char-of-requires : tie.Need-char-of-requires
-char-of-requires c κs = search needs
 
 returns-2 : tie.Need-returns-2
 returns-2 c =
@@ -38,4 +26,4 @@ returns-2 c =
 pub letter-at-spec : {M : Type 1} → statement M
 letter-at-spec =
     tie.close
-    (tie.spec add-byte-at byte-at-requires returns byte-at-requires-2 char-of-requires returns-2)
+    (tie.spec (λ c. search needs) (λ c κs. search needs) returns (λ c κs. search needs) (λ c κs. search needs) returns-2)

@@ -24,20 +24,8 @@ loop-holds c =
     let a = c .before .before .args in
     (omega arith, omega arith, refl, coding-start (a .s .now) (a .dst .now))
 
-shared-slice-read-b : tie.Need-shared-slice-read-b Inv-loop μ-loop
-shared-slice-read-b c = omega arith
-
-code-char-requires : tie.Need-code-char-requires Inv-loop μ-loop
-code-char-requires c κs = search needs
-
 put-some-requires : tie.Need-put-some-requires Inv-loop μ-loop
 put-some-requires c κs = (c .before .before .code-char .ensures .fits, omega arith)
-
-add-i : tie.Need-add-i Inv-loop μ-loop
-add-i c = omega arith
-
-loop-less : tie.Need-loop-less Inv-loop μ-loop
-loop-less c = omega arith
 
 loop-again : tie.Need-loop-again Inv-loop μ-loop
 loop-again c =
@@ -59,17 +47,5 @@ returns c =
     (omega (arith, w .moved), w .holds ∙ sets-front (a .dst .now) (coded (a .s .now)))
 
 pub put-coded-spec : {M : Type 1} → statement M
-put-coded-spec =
-    tie.close
-    (tie.spec
-    Inv-loop
-    μ-loop
-    loop-holds
-    shared-slice-read-b
-    code-char-requires
-    put-some-requires
-    add-i
-    loop-less
-    loop-again
-    same-length
-    returns)
+put-coded-spec = tie.close (tie.spec Inv-loop μ-loop loop-holds (λ c. omega arith) (λ c κs. search needs) put-some-requires (λ c. omega arith)
+    (λ c. omega arith) loop-again same-length returns)

@@ -21,12 +21,6 @@ abbrev μ-loop : tie.MeasureT-loop
 loop-holds : tie.Need-loop-holds Inv-loop μ-loop
 loop-holds c = (omega arith, refl, rw add-zero)
 
-add-if1 : tie.Need-add-if1 Inv-loop μ-loop
-add-if1 c = omega arith
-
-add-result : tie.Need-add-result Inv-loop μ-loop
-add-result c = omega arith
-
 same-length : tie.Need-same-length Inv-loop μ-loop
 same-length c = c .before .before .loop .inv .1
 
@@ -40,30 +34,12 @@ returns c =
       holds = sym (l .inv .2 ∙ sets-out (l .dst) (a .at + l .i) (drop (l .i) (take (a .n) (a .t3))) (omega arith));
     }
 
-array-read-dst : tie.Need-array-read-dst Inv-loop μ-loop
-array-read-dst c = omega arith
-
-add-dst : tie.Need-add-dst Inv-loop μ-loop
-add-dst c = omega arith
-
-slice-write-dst : tie.Need-slice-write-dst Inv-loop μ-loop
-slice-write-dst c = omega arith
-
-add-i : tie.Need-add-i Inv-loop μ-loop
-add-i c = omega arith
-
-loop-less : tie.Need-loop-less Inv-loop μ-loop
-loop-less c = omega arith
-
 loop-again : tie.Need-loop-again Inv-loop μ-loop
 loop-again c =
     let l = c .before .before .loop in
     let a = c .before .before .before .args in
     let room : length (a .t3) ≡ 5 = search needs in
     (omega arith, length-set (l .dst) (a .at + l .i) _ ∙ l .inv .1, l .inv .2 ∙ sets-more (l .dst) (a .at) (a .n) (a .t3) (l .i) (omega arith) (omega arith))
-
-add-result-2 : tie.Need-add-result-2 Inv-loop μ-loop
-add-result-2 c = omega arith
 
 same-length-2 : tie.Need-same-length-2 Inv-loop μ-loop
 same-length-2 c = c .before .loop .inv .1
@@ -77,22 +53,5 @@ returns-2 c =
     record { moved = rw length-take (omega arith); holds = sym (l .inv .2 ∙ rw (drop-of-length-le (take (a .n) (a .t3)))) }
 
 pub put-some-spec : {M : Type 1} → statement M
-put-some-spec =
-    tie.close
-    (tie.spec
-    Inv-loop
-    μ-loop
-    loop-holds
-    add-if1
-    add-result
-    same-length
-    returns
-    array-read-dst
-    add-dst
-    slice-write-dst
-    add-i
-    loop-less
-    loop-again
-    add-result-2
-    same-length-2
-    returns-2)
+put-some-spec = tie.close (tie.spec Inv-loop μ-loop loop-holds (λ c. omega arith) (λ c. omega arith) same-length returns (λ c. omega arith)
+    (λ c. omega arith) (λ c. omega arith) (λ c. omega arith) (λ c. omega arith) loop-again (λ c. omega arith) same-length-2 returns-2)

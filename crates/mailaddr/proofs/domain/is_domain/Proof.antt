@@ -30,23 +30,11 @@ loop-holds : tie.Need-loop-holds Inv-loop μ-loop
 unfolding isDomain
 loop-holds c = (omega arith, λ h. refl, λ h. absurd (omega arith))
 
-part-end-requires : tie.Need-part-end-requires Inv-loop μ-loop
-part-end-requires c κs = search needs
-
-sub-is-domain-part : tie.Need-sub-is-domain-part Inv-loop μ-loop
-sub-is-domain-part c = omega arith
-
-part-is-domain-part-start : tie.Need-part-is-domain-part-start Inv-loop μ-loop
-part-is-domain-part-start c = omega arith
-
 part-is-domain-part-end : tie.Need-part-is-domain-part-end Inv-loop μ-loop
 part-is-domain-part-end c =
     let l = c .before .before .loop in
     let s = c .before .before .before .before .args .s .now in
     omega (arith, run-le 46 (drop (l .from) s), length-drop (l .from) s)
-
-is-domain-part-requires : tie.Need-is-domain-part-requires Inv-loop μ-loop
-is-domain-part-requires c κs = search needs
 
 returns : tie.Need-returns Inv-loop μ-loop
 returns c =
@@ -84,19 +72,5 @@ returns-2 : tie.Need-returns-2 Inv-loop μ-loop
 returns-2 c = sym (c .before .loop .inv .2 (omega arith))
 
 pub is-domain-spec : {M : Type 1} → statement M
-is-domain-spec =
-    tie.close
-    (tie.spec
-    Inv-loop
-    μ-loop
-    loop-holds
-    part-end-requires
-    sub-is-domain-part
-    part-is-domain-part-start
-    part-is-domain-part-end
-    is-domain-part-requires
-    returns
-    add-from
-    loop-less
-    loop-again
-    returns-2)
+is-domain-spec = tie.close (tie.spec Inv-loop μ-loop loop-holds (λ c κs. search needs) (λ c. omega arith) (λ c. omega arith) part-is-domain-part-end
+    (λ c κs. search needs) returns add-from loop-less loop-again returns-2)

@@ -51,16 +51,4 @@ returns-2 c =
     omega (arith, back-end (a .s .now) (c .before .loop .i) (omega arith))
 
 pub part-start-spec : {M : Type 1} → statement M
-part-start-spec =
-    tie.close
-    (tie.spec
-    Inv-loop
-    μ-loop
-    loop-holds
-    sub-if1
-    shared-slice-read-if1
-    returns
-    sub-i
-    loop-less
-    loop-again
-    returns-2)
+part-start-spec = tie.close (tie.spec Inv-loop μ-loop loop-holds sub-if1 shared-slice-read-if1 returns sub-i loop-less loop-again returns-2)

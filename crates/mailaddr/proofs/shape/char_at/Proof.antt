@@ -8,19 +8,10 @@ use lib.ListN.{length, getD}
 use Rattle.mailaddr.proofs.shape.char_at.Statement.{statement}
 use Rattle.mailaddr.proofs.shape.char_at.Tie as tie
 
-shared-slice-read-if1 : tie.Need-shared-slice-read-if1
-shared-slice-read-if1 c = search needs
-
 returns : tie.Need-returns
 returns c =
     let a = c .before .before .args in
     rw (ne-eqb (getD (a .s .now) (a .i) 0) 92 (c .if1 .taken))
-
-add-if2 : tie.Need-add-if2
-add-if2 c = search needs
-
-add-result : tie.Need-add-result
-add-result c = search needs
 
 returns-2 : tie.Need-returns-2
 returns-2 c =
@@ -34,4 +25,4 @@ returns-3 c =
 
 pub char-at-spec : {M : Type 1} → statement M
 char-at-spec =
-    tie.close (tie.spec shared-slice-read-if1 returns add-if2 add-result returns-2 returns-3)
+    tie.close (tie.spec (λ c. search needs) returns (λ c. search needs) (λ c. search needs) returns-2 returns-3)

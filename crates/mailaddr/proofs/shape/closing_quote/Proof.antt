@@ -113,25 +113,5 @@ unfolding closingAnswer
 returns-4 c = sym (c .before .loop .inv ∙ at-end (c .before .before .before .args .s .now) (c .before .loop .i) (omega arith))
 
 pub closing-quote-spec : {M : Type 1} → statement M
-closing-quote-spec =
-    tie.close
-    (tie.spec
-    Inv-loop
-    μ-loop
-    loop-holds
-    shared-slice-read-b
-    add-t9
-    returns
-    add-byte-at
-    byte-at-requires
-    is-quoted-byte-requires
-    returns-2
-    add-i
-    loop-less
-    loop-again
-    is-quoted-byte-requires-2
-    returns-3
-    add-i-2
-    loop-less-2
-    loop-again-2
-    returns-4)
+closing-quote-spec = tie.close (tie.spec Inv-loop μ-loop loop-holds shared-slice-read-b add-t9 returns add-byte-at byte-at-requires
+    is-quoted-byte-requires returns-2 add-i loop-less loop-again is-quoted-byte-requires-2 returns-3 add-i-2 loop-less-2 loop-again-2 returns-4)

@@ -7,12 +7,9 @@ use Rattle.mailaddr.proofs.Laws.Shape.{readable-parted}
 use Rattle.mailaddr.proofs.shape.is_readable.Statement.{statement}
 use Rattle.mailaddr.proofs.shape.is_readable.Tie as tie
 
-is-parted-requires : tie.Need-is-parted-requires
-is-parted-requires c κs = search needs
-
 returns : tie.Need-returns
 unfolding isIn
 returns c = c .is-parted .ensures ∙ sym (readable-parted (c .before .before .args .s .now))
 
 pub is-readable-spec : {M : Type 1} → statement M
-is-readable-spec = tie.close (tie.spec is-parted-requires returns)
+is-readable-spec = tie.close (tie.spec (λ c κs. search needs) returns)

@@ -11,25 +11,16 @@ use Rattle.mailaddr.proofs.Laws.Shape.{plain-at}
 use Rattle.mailaddr.proofs.shape.plain_shape.Statement.{statement}
 use Rattle.mailaddr.proofs.shape.plain_shape.Tie as tie
 
-part-end-requires : tie.Need-part-end-requires
-part-end-requires c κs = search needs
-
 slice-aggregate-is-atoms : tie.Need-slice-aggregate-is-atoms
 slice-aggregate-is-atoms c =
     let s = c .before .before .before .args .s .now in
     sym (length-take-le (c .before .part-end .result) s (omega (arith, c .before .part-end .ensures, run-le 64 s)))
-
-is-atoms-requires : tie.Need-is-atoms-requires
-is-atoms-requires c κs = search needs
 
 returns : tie.Need-returns
 unfolding shapeAnswer fromShape
 returns c =
     let at = c .before .before .before in
     rw (plain-at (at .before .before .args .s .now) (at .part-end .result) (at .part-end .ensures), failed (c .before .is-atoms .ensures) (c .if1 .taken))
-
-with-local-requires : tie.Need-with-local-requires
-with-local-requires c κs = search needs
 
 returns-2 : tie.Need-returns-2
 returns-2 c =
@@ -38,12 +29,4 @@ returns-2 c =
     ∙ ap fromShape (sym (plain-at (at .before .before .args .s .now) (at .part-end .result) (at .part-end .ensures) ∙ rw (passed (c .before .before .is-atoms .ensures) (c .before .if1 .left))))
 
 pub plain-shape-spec : {M : Type 1} → statement M
-plain-shape-spec =
-    tie.close
-    (tie.spec
-    part-end-requires
-    slice-aggregate-is-atoms
-    is-atoms-requires
-    returns
-    with-local-requires
-    returns-2)
+plain-shape-spec = tie.close (tie.spec (λ c κs. search needs) slice-aggregate-is-atoms (λ c κs. search needs) returns (λ c κs. search needs) returns-2)

@@ -20,17 +20,8 @@ marked : (c : tie.Else1) → let b = c .before .before .before .args .b in escap
 unfolding escaped
 marked c = rw (passed (c .before .needs-backslash .ensures) (c .if1 .left))
 
-needs-backslash-requires : tie.Need-needs-backslash-requires
-needs-backslash-requires c κs = search needs
-
 slice-write-dst : tie.Need-slice-write-dst
 slice-write-dst c = omega (arith, ap length (plain c), c .before .before .before .pre)
-
-add-result : tie.Need-add-result
-add-result c = search needs
-
-same-length : tie.Need-same-length
-same-length c = search needs
 
 returns : tie.Need-returns
 returns c = rw (plain c) (record { moved = refl; holds = refl })
@@ -38,33 +29,12 @@ returns c = rw (plain c) (record { moved = refl; holds = refl })
 slice-write-dst-2 : tie.Need-slice-write-dst-2
 slice-write-dst-2 c = omega (arith, ap length (marked c), c .before .before .before .pre)
 
-add-dst : tie.Need-add-dst
-add-dst c = search needs
-
 slice-write-dst-3 : tie.Need-slice-write-dst-3
 slice-write-dst-3 c = simp length-set (omega (arith, ap length (marked c), c .before .before .before .pre))
-
-add-result-2 : tie.Need-add-result-2
-add-result-2 c = search needs
-
-same-length-2 : tie.Need-same-length-2
-same-length-2 c = search needs
 
 returns-2 : tie.Need-returns-2
 returns-2 c = rw (marked c) (record { moved = refl; holds = rw (add-one (c .before .before .before .args .at)) })
 
 pub put-byte-spec : {M : Type 1} → statement M
-put-byte-spec =
-    tie.close
-    (tie.spec
-    needs-backslash-requires
-    slice-write-dst
-    add-result
-    same-length
-    returns
-    slice-write-dst-2
-    add-dst
-    slice-write-dst-3
-    add-result-2
-    same-length-2
-    returns-2)
+put-byte-spec = tie.close (tie.spec (λ c κs. search needs) slice-write-dst (λ c. search needs) (λ c. search needs) returns slice-write-dst-2
+    (λ c. search needs) slice-write-dst-3 (λ c. search needs) (λ c. search needs) returns-2)

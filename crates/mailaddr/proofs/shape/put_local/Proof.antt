@@ -25,23 +25,14 @@ room c =
     let a = c .before .before .before .before in
     omega (arith, ap length (other c), length-append (escaped (a .args .s .now)) (34 ∷ []), a .pre)
 
-is-atoms-requires : tie.Need-is-atoms-requires
-is-atoms-requires c κs = search needs
-
 put-requires : tie.Need-put-requires
 put-requires c κs = omega (arith, ap length (atoms (c .before)), c .before .before .before .before .before .pre)
-
-same-length : tie.Need-same-length
-same-length c = search needs
 
 returns : tie.Need-returns
 returns c = rw (atoms (c .before .before .before .before)) (c .before .before .put .ensures)
 
 slice-write-dst : tie.Need-slice-write-dst
 slice-write-dst c = omega (arith, room c)
-
-add-put-escaped : tie.Need-add-put-escaped
-add-put-escaped c = search needs
 
 put-escaped-requires : tie.Need-put-escaped-requires
 put-escaped-requires c κs = simp length-set (omega (arith, room (c .before)))
@@ -71,17 +62,5 @@ returns-2 c =
     rw (other (c .before .before .before .before)) (wrote-then (wrote-then quote (c .before .before .put-escaped .ensures)) (record { moved = refl; holds = refl }))
 
 pub put-local-spec : {M : Type 1} → statement M
-put-local-spec =
-    tie.close
-    (tie.spec
-    is-atoms-requires
-    put-requires
-    same-length
-    returns
-    slice-write-dst
-    add-put-escaped
-    put-escaped-requires
-    slice-write-dst-2
-    add-result
-    same-length-2
-    returns-2)
+put-local-spec = tie.close (tie.spec (λ c κs. search needs) put-requires (λ c. search needs) returns slice-write-dst (λ c. search needs)
+    put-escaped-requires slice-write-dst-2 add-result same-length-2 returns-2)

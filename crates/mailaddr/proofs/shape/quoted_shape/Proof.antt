@@ -9,23 +9,11 @@ use Rattle.mailaddr.proofs.Laws.Shape.{quoted-at, quoted-never}
 use Rattle.mailaddr.proofs.shape.quoted_shape.Statement.{statement}
 use Rattle.mailaddr.proofs.shape.quoted_shape.Tie as tie
 
-closing-quote-requires : tie.Need-closing-quote-requires
-closing-quote-requires c κs = search needs
-
-enum-known-at : tie.Need-enum-known-at
-enum-known-at c = search needs
-
-enum-told : tie.Need-enum-told
-enum-told c = search needs
-
 returns : tie.Need-returns
 unfolding closingAnswer shapeAnswer fromShape
 returns c =
     let s = c .before .before .before .before .args .s .now in
     rw (quoted-never s (closing (drop 1 s)) (sym (c .before .before .closing-quote .ensures) ∙ ap closingAnswer (c .enum-told .given .1)))
-
-with-local-requires : tie.Need-with-local-requires
-with-local-requires c κs = search needs
 
 returns-2 : tie.Need-returns-2
 unfolding closingAnswer
@@ -38,4 +26,4 @@ returns-2 c =
 pub quoted-shape-spec : {M : Type 1} → statement M
 quoted-shape-spec =
     tie.close
-    (tie.spec closing-quote-requires enum-known-at enum-told returns with-local-requires returns-2)
+    (tie.spec (λ c κs. search needs) (λ c. search needs) (λ c. search needs) returns (λ c κs. search needs) returns-2)

@@ -15,19 +15,10 @@ returns : tie.Need-returns
 unfolding shapeAnswer shaping
 returns c = rw (lt-ltb longestAddress (length (c .before .before .args .s .now)) (omega arith))
 
-byte-at-requires : tie.Need-byte-at-requires
-byte-at-requires c κs = search needs
-
-quoted-shape-requires : tie.Need-quoted-shape-requires
-quoted-shape-requires c κs = search needs
-
 returns-2 : tie.Need-returns-2
 returns-2 c =
     c .quoted-shape .ensures
     ∙ sym (shaping-quoted (c .before .before .before .before .before .args .s .now) (omega arith) (sym (c .before .before .byte-at .ensures) ∙ c .before .if2 .taken))
-
-plain-shape-requires : tie.Need-plain-shape-requires
-plain-shape-requires c κs = search needs
 
 returns-3 : tie.Need-returns-3
 returns-3 c =
@@ -35,12 +26,4 @@ returns-3 c =
     ∙ sym (shaping-plain (c .before .before .before .before .before .args .s .now) (omega arith) (λ e. c .before .if2 .left (c .before .before .byte-at .ensures ∙ e)))
 
 pub read-shape-spec : {M : Type 1} → statement M
-read-shape-spec =
-    tie.close
-    (tie.spec
-    returns
-    byte-at-requires
-    quoted-shape-requires
-    returns-2
-    plain-shape-requires
-    returns-3)
+read-shape-spec = tie.close (tie.spec returns (λ c κs. search needs) (λ c κs. search needs) returns-2 (λ c κs. search needs) returns-3)

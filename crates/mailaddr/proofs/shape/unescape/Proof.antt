@@ -31,17 +31,11 @@ step c = char-step (c .before .before .before .before .before .args .s .now) (c 
 loop-holds : tie.Need-loop-holds Inv-loop μ-loop
 loop-holds c = (omega arith, refl, omega arith, refl)
 
-char-at-requires : tie.Need-char-at-requires Inv-loop μ-loop
-char-at-requires c κs = omega arith
-
 shared-slice-read-dst : tie.Need-shared-slice-read-dst Inv-loop μ-loop
 shared-slice-read-dst c = step (c .before) .1
 
 slice-write-dst : tie.Need-slice-write-dst Inv-loop μ-loop
 slice-write-dst c = omega (arith, c .before .before .before .before .before .before .pre)
-
-add-n : tie.Need-add-n Inv-loop μ-loop
-add-n c = omega arith
 
 add-i : tie.Need-add-i Inv-loop μ-loop
 add-i c = omega (arith, step (c .before) .1)
@@ -70,18 +64,5 @@ returns c =
     }
 
 pub unescape-spec : {M : Type 1} → statement M
-unescape-spec =
-    tie.close
-    (tie.spec
-    Inv-loop
-    μ-loop
-    loop-holds
-    char-at-requires
-    shared-slice-read-dst
-    slice-write-dst
-    add-n
-    add-i
-    loop-less
-    loop-again
-    same-length
-    returns)
+unescape-spec = tie.close (tie.spec Inv-loop μ-loop loop-holds (λ c κs. omega arith) shared-slice-read-dst slice-write-dst (λ c. omega arith) add-i
+    loop-less loop-again same-length returns)

@@ -20,9 +20,6 @@ put-requires c κs =
     let a = c .before .before .before .before .before .before .args in
     omega (arith, length-take-le (a .parted .at) (a .s .now) (omega arith))
 
-same-length : tie.Need-same-length
-same-length c = search needs
-
 returns : tie.Need-returns
 returns c =
     let at = c .before .before .before .before .before in
@@ -34,24 +31,6 @@ returns-2 c =
     let a = c .before .before .before .before .before .args in
     rw (local-none (a .s .now) (a .parted) (not-false (a .parted .quoted) (c .before .if1 .left)) (omega arith) (omega arith)) wrote-nothing
 
-sub-end : tie.Need-sub-end
-sub-end c = search needs
-
-sub-unescape : tie.Need-sub-unescape
-sub-unescape c = search needs
-
-part-unescape-start : tie.Need-part-unescape-start
-part-unescape-start c = search needs
-
-part-unescape-end : tie.Need-part-unescape-end
-part-unescape-end c = search needs
-
-unescape-requires : tie.Need-unescape-requires
-unescape-requires c κs = search needs
-
-same-length-2 : tie.Need-same-length-2
-same-length-2 c = search needs
-
 returns-3 : tie.Need-returns-3
 returns-3 c =
     let at = c .before .before .before .before .before .before in
@@ -59,18 +38,5 @@ returns-3 c =
     rw (local-quoted (a .s .now) (a .parted) (not-false (a .parted .quoted) (at .if1 .left)) (omega arith) (omega arith)) (c .before .before .unescape .ensures)
 
 pub unquote-local-spec : {M : Type 1} → statement M
-unquote-local-spec =
-    tie.close
-    (tie.spec
-    slice-aggregate-put
-    put-requires
-    same-length
-    returns
-    returns-2
-    sub-end
-    sub-unescape
-    part-unescape-start
-    part-unescape-end
-    unescape-requires
-    same-length-2
-    returns-3)
+unquote-local-spec = tie.close (tie.spec slice-aggregate-put put-requires (λ c. search needs) returns returns-2 (λ c. search needs)
+    (λ c. search needs) (λ c. search needs) (λ c. search needs) (λ c κs. search needs) (λ c. search needs) returns-3)

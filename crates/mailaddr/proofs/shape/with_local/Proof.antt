@@ -22,9 +22,6 @@ inside c =
     let a = c .before .before .before .args in
     byte-inside (a .s .now) (a .at) (omega (arith, c .before .byte-at .ensures, c .if1 .left))
 
-byte-at-requires : tie.Need-byte-at-requires
-byte-at-requires c κs = search needs
-
 returns : tie.Need-returns
 unfolding shapeAnswer fromShape withLocal
 returns c =
@@ -39,12 +36,6 @@ sub-is-atoms c = omega (arith, inside c)
 
 part-is-atoms-start : tie.Need-part-is-atoms-start
 part-is-atoms-start c = omega (arith, inside c)
-
-part-is-atoms-end : tie.Need-part-is-atoms-end
-part-is-atoms-end c = search needs
-
-is-atoms-requires : tie.Need-is-atoms-requires
-is-atoms-requires c κs = search needs
 
 returns-2 : tie.Need-returns-2
 unfolding shapeAnswer fromShape withLocal
@@ -62,15 +53,5 @@ returns-3 c =
     rw (eq-eqb (getD (a .s .now) (a .at) 0) 64 (sym (at .before .byte-at .ensures) ∙ at .if1 .left), e)
 
 pub with-local-spec : {M : Type 1} → statement M
-with-local-spec =
-    tie.close
-    (tie.spec
-    byte-at-requires
-    returns
-    add-is-atoms
-    sub-is-atoms
-    part-is-atoms-start
-    part-is-atoms-end
-    is-atoms-requires
-    returns-2
-    returns-3)
+with-local-spec = tie.close (tie.spec (λ c κs. search needs) returns add-is-atoms sub-is-atoms part-is-atoms-start (λ c. search needs)
+    (λ c κs. search needs) returns-2 returns-3)

@@ -10,18 +10,6 @@ use Rattle.mailaddr.proofs.Laws.Tail.{tail-drop}
 use Rattle.mailaddr.proofs.tail.shared_tail.Statement.{statement}
 use Rattle.mailaddr.proofs.tail.shared_tail.Tie as tie
 
-tail-start-requires : tie.Need-tail-start-requires
-tail-start-requires c κs = search needs
-
-sub-result : tie.Need-sub-result
-sub-result c = search needs
-
-part-result-start : tie.Need-part-result-start
-part-result-start c = search needs
-
-part-result-end : tie.Need-part-result-end
-part-result-end c = search needs
-
 returns : tie.Need-returns
 returns c =
     let args = c .before .before .before .before .args in
@@ -32,4 +20,4 @@ returns c =
     ∙ tail-drop a (args .b .now)
 
 pub shared-tail-spec : {M : Type 1} → statement M
-shared-tail-spec = tie.close (tie.spec tail-start-requires sub-result part-result-start part-result-end returns)
+shared-tail-spec = tie.close (tie.spec (λ c κs. search needs) (λ c. search needs) (λ c. search needs) (λ c. search needs) returns)

@@ -31,33 +31,6 @@ loop-holds c =
     let e : spread (partsOf (take (length a) a)) (partsOf (take (length b) b)) ≡ spread (partsOf a) (partsOf b) = rw (take-length a, take-length b) in
     omega arith
 
-part-start-requires : tie.Need-part-start-requires Inv-loop μ-loop
-part-start-requires c κs = search needs
-
-part-start-requires-2 : tie.Need-part-start-requires-2 Inv-loop μ-loop
-part-start-requires-2 c κs = search needs
-
-sub-same-text : tie.Need-sub-same-text Inv-loop μ-loop
-sub-same-text c = omega arith
-
-part-same-text-start : tie.Need-part-same-text-start Inv-loop μ-loop
-part-same-text-start c = omega arith
-
-part-same-text-end : tie.Need-part-same-text-end Inv-loop μ-loop
-part-same-text-end c = omega arith
-
-sub-same-text-2 : tie.Need-sub-same-text-2 Inv-loop μ-loop
-sub-same-text-2 c = omega arith
-
-part-same-text-start-2 : tie.Need-part-same-text-start-2 Inv-loop μ-loop
-part-same-text-start-2 c = omega arith
-
-part-same-text-end-2 : tie.Need-part-same-text-end-2 Inv-loop μ-loop
-part-same-text-end-2 c = omega arith
-
-same-text-requires : tie.Need-same-text-requires Inv-loop μ-loop
-same-text-requires c κs = search needs
-
 -- the numbers of a turn that goes on before the dot: n is the length, t what all shared parts take, s and m what is shared
 -- before and after the turn
 turn : (n i p t s m : ℕ) → 0 < p → p ≤ i → i ≤ n → t + i ≡ n + s → s + p ≡ suc (i + m)
@@ -116,12 +89,6 @@ returns-3 c =
     tail-at (args .a .now) (args .b .now) (p .result) (omega (arith, p .ensures))
     (omega (arith, l .inv .3, same (c .before .before), spread-second (partsLeft (args .a .now) (p .result)) (args .b .now) (q .result) (c .if3 .taken)))
 
-sub-i : tie.Need-sub-i Inv-loop μ-loop
-sub-i c = omega arith
-
-sub-j : tie.Need-sub-j Inv-loop μ-loop
-sub-j c = omega arith
-
 -- a turn after which both have parts left
 goes-on : (c : tie.Else3 Inv-loop μ-loop)
     → let at = c .before .before .before .before .before .before in
@@ -166,25 +133,6 @@ loop-again c =
     )
 
 pub tail-start-spec : {M : Type 1} → statement M
-tail-start-spec =
-    tie.close
-    (tie.spec
-    Inv-loop
-    μ-loop
-    loop-holds
-    part-start-requires
-    part-start-requires-2
-    sub-same-text
-    part-same-text-start
-    part-same-text-end
-    sub-same-text-2
-    part-same-text-start-2
-    part-same-text-end-2
-    same-text-requires
-    returns
-    returns-2
-    returns-3
-    sub-i
-    sub-j
-    loop-less
-    loop-again)
+tail-start-spec = tie.close (tie.spec Inv-loop μ-loop loop-holds (λ c κs. search needs) (λ c κs. search needs) (λ c. omega arith) (λ c. omega arith)
+    (λ c. omega arith) (λ c. omega arith) (λ c. omega arith) (λ c. omega arith) (λ c κs. search needs) returns returns-2 returns-3 (λ c. omega arith)
+    (λ c. omega arith) loop-less loop-again)

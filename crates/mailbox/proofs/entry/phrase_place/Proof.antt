@@ -8,27 +8,15 @@ use Rattle.mailbox.proofs.Laws.Written.{reading-deep, reading-line, rea
 use Rattle.mailbox.proofs.entry.phrase_place.Statement.{statement}
 use Rattle.mailbox.proofs.entry.phrase_place.Tie as tie
 
-no-phrase-requires : tie.Need-no-phrase-requires
-no-phrase-requires c κs = search needs
-
 returns : tie.Need-returns
 unfolding phrasePlace placeBy
 returns c = rw (c .no-phrase .ensures, reading-long (c .before .before .before .args .line .now) (omega arith))
-
-nests-too-deep-requires : tie.Need-nests-too-deep-requires
-nests-too-deep-requires c κs = search needs
-
-no-phrase-requires-2 : tie.Need-no-phrase-requires-2
-no-phrase-requires-2 c κs = search needs
 
 returns-2 : tie.Need-returns-2
 unfolding phrasePlace placeBy
 returns-2 c =
     let s = c .before .before .before .before .before .args .line .now in
     rw (c .no-phrase2 .ensures, reading-deep s (omega arith) (sym (c .before .before .nests-too-deep .ensures) ∙ c .before .if2 .taken))
-
-short-phrase-requires : tie.Need-short-phrase-requires
-short-phrase-requires c κs = search needs
 
 returns-3 : tie.Need-returns-3
 unfolding phrasePlace
@@ -37,13 +25,5 @@ returns-3 c =
     rw (reading-line s (omega arith) (sym (c .before .before .nests-too-deep .ensures) ∙ c .before .if2 .left)) (c .short-phrase .ensures)
 
 pub phrase-place-spec : {M : Type 1} → statement M
-phrase-place-spec =
-    tie.close
-    (tie.spec
-    no-phrase-requires
-    returns
-    nests-too-deep-requires
-    no-phrase-requires-2
-    returns-2
-    short-phrase-requires
+phrase-place-spec = tie.close (tie.spec (λ c κs. search needs) returns (λ c κs. search needs) (λ c κs. search needs) returns-2 (λ c κs. search needs)
     returns-3)

@@ -19,9 +19,6 @@ found c =
     let a = c .before .before .before .before in
     told-found (a .args .m) (a .args .words .now) (not-false (a .args .m .found) (c .if1 .left)) (a .pre .0 .0) (a .pre .0 .1)
 
-refused-requires : tie.Need-refused-requires
-refused-requires c κs = search needs
-
 returns : tie.Need-returns
 returns c =
     let a = c .before .before .before .before .before .args in
@@ -32,25 +29,10 @@ slice-aggregate-place-bare c =
     let a = c .before .before .before .before .before .before in
     sym (length-take-le (a .args .m .local) (a .args .words .now) (omega (arith, a .pre .0 .0, a .pre .0 .1)))
 
-sub-place-bare : tie.Need-sub-place-bare
-sub-place-bare c = search needs
-
-part-place-bare-start : tie.Need-part-place-bare-start
-part-place-bare-start c = search needs
-
-part-place-bare-end : tie.Need-part-place-bare-end
-part-place-bare-end c = search needs
-
 place-bare-requires : tie.Need-place-bare-requires
 place-bare-requires c κs =
     let a = c .before .before .before .before .before .before .before in
     (simp length-take (omega arith), simp (length-take, length-drop) (omega arith))
-
-refused-requires-2 : tie.Need-refused-requires-2
-refused-requires-2 c κs = search needs
-
-same-length : tie.Need-same-length
-same-length c = search needs
 
 returns-2 : tie.Need-returns-2
 unfolding bareText
@@ -58,9 +40,6 @@ returns-2 c =
     let a = c .before .before .before .before .before .before .before .before .before .before .before .before .args in
     rw (c .refused2 .ensures, found (c .before .before .before .before .before .before .before .before))
     (written-short (bareAt (a .m) (a .words .now)) (a .out .now) (c .before .before .before .before .place-bare .ensures) (c .before .if2 .taken))
-
-same-length-2 : tie.Need-same-length-2
-same-length-2 c = search needs
 
 returns-3 : tie.Need-returns-3
 unfolding bareText
@@ -70,18 +49,5 @@ returns-3 c =
     (written-done (bareAt (a .m) (a .words .now)) (a .out .now) (c .before .before .before .before .place-bare .ensures) (c .before .if2 .left) (a .m .phrase) refl)
 
 pub place-read-spec : {M : Type 1} → statement M
-place-read-spec =
-    tie.close
-    (tie.spec
-    refused-requires
-    returns
-    slice-aggregate-place-bare
-    sub-place-bare
-    part-place-bare-start
-    part-place-bare-end
-    place-bare-requires
-    refused-requires-2
-    same-length
-    returns-2
-    same-length-2
-    returns-3)
+place-read-spec = tie.close (tie.spec (λ c κs. search needs) returns slice-aggregate-place-bare (λ c. search needs) (λ c. search needs)
+    (λ c. search needs) place-bare-requires (λ c κs. search needs) (λ c. search needs) returns-2 (λ c. search needs) returns-3)

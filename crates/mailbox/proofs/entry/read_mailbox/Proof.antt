@@ -44,14 +44,5 @@ returns-3 c =
     rw (reading-line (a .line .now) (omega arith) (sym (d .ensures) ∙ c .before .before .before .before .if2 .left)) (c .before .before .read-short .ensures)
 
 pub read-mailbox-spec : {M : Type 1} → statement M
-read-mailbox-spec =
-    tie.close
-    (tie.spec
-    refused-requires
-    returns
-    nests-too-deep-requires
-    refused-requires-2
-    returns-2
-    read-short-requires
-    same-length
+read-mailbox-spec = tie.close (tie.spec refused-requires returns nests-too-deep-requires refused-requires-2 returns-2 read-short-requires same-length
     returns-3)

@@ -7,15 +7,6 @@ use Rattle.mailbox.proofs.Laws.Written.{place-found, place-none}
 use Rattle.mailbox.proofs.entry.short_phrase.Statement.{statement}
 use Rattle.mailbox.proofs.entry.short_phrase.Tie as tie
 
-slice-aggregate-mailbox : tie.Need-slice-aggregate-mailbox
-slice-aggregate-mailbox c = search needs
-
-mailbox-requires : tie.Need-mailbox-requires
-mailbox-requires c κs = search needs
-
-no-phrase-requires : tie.Need-no-phrase-requires
-no-phrase-requires c κs = search needs
-
 returns : tie.Need-returns
 returns c =
     let m = c .before .before .before .before .mailbox in
@@ -30,4 +21,4 @@ returns-2 c =
 pub short-phrase-spec : {M : Type 1} → statement M
 short-phrase-spec =
     tie.close
-    (tie.spec slice-aggregate-mailbox mailbox-requires no-phrase-requires returns returns-2)
+    (tie.spec (λ c. search needs) (λ c κs. search needs) (λ c κs. search needs) returns returns-2)

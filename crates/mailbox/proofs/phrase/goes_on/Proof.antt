@@ -5,17 +5,11 @@ use borrow.Author.Needs.{needs}
 use Rattle.mailbox.proofs.phrase.goes_on.Statement.{statement}
 use Rattle.mailbox.proofs.phrase.goes_on.Tie as tie
 
-is-special-requires : tie.Need-is-special-requires
-is-special-requires c κs = search needs
-
 returns : tie.Need-returns
 returns c = rw (sym (c .before .is-special .ensures), c .if1 .taken)
-
-is-special-requires-2 : tie.Need-is-special-requires-2
-is-special-requires-2 c κs = search needs
 
 returns-2 : tie.Need-returns-2
 returns-2 c = c .is-special2 .ensures ∙ rw (sym (c .before .before .is-special .ensures), c .before .if1 .left)
 
 pub goes-on-spec : {M : Type 1} → statement M
-goes-on-spec = tie.close (tie.spec is-special-requires returns is-special-requires-2 returns-2)
+goes-on-spec = tie.close (tie.spec (λ c κs. search needs) returns (λ c κs. search needs) returns-2)

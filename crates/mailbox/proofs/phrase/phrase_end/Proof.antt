@@ -23,9 +23,6 @@ abbrev μ-loop : tie.MeasureT-loop
 loop-holds : tie.Need-loop-holds Inv-loop μ-loop
 loop-holds c = (refl, c .before .pre .0, omega arith, c .before .pre .1 .0)
 
-is-word-requires : tie.Need-is-word-requires Inv-loop μ-loop
-is-word-requires c κs = search needs
-
 returns : tie.Need-returns Inv-loop μ-loop
 unfolding toldPhrase
 returns c =
@@ -55,4 +52,4 @@ loop-again c =
     )
 
 pub phrase-end-spec : {M : Type 1} → statement M
-phrase-end-spec = tie.close (tie.spec Inv-loop μ-loop loop-holds is-word-requires returns next-token-requires loop-less loop-again)
+phrase-end-spec = tie.close (tie.spec Inv-loop μ-loop loop-holds (λ c κs. search needs) returns next-token-requires loop-less loop-again)

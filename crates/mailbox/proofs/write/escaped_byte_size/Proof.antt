@@ -6,9 +6,6 @@ use Rattle.mailaddr.specs.Shape.{escaped}
 use Rattle.mailbox.proofs.write.escaped_byte_size.Statement.{statement}
 use Rattle.mailbox.proofs.write.escaped_byte_size.Tie as tie
 
-needs-backslash-requires : tie.Need-needs-backslash-requires
-needs-backslash-requires c κs = search needs
-
 returns : tie.Need-returns
 unfolding escaped
 returns c = rw (sym (c .before .needs-backslash .ensures) ∙ c .if1 .taken)
@@ -18,4 +15,4 @@ unfolding escaped
 returns-2 c = rw (sym (c .before .needs-backslash .ensures) ∙ c .if1 .left)
 
 pub escaped-byte-size-spec : {M : Type 1} → statement M
-escaped-byte-size-spec = tie.close (tie.spec needs-backslash-requires returns returns-2)
+escaped-byte-size-spec = tie.close (tie.spec (λ c κs. search needs) returns returns-2)

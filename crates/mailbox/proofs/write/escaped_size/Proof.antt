@@ -16,12 +16,6 @@ Inv-loop s n₀ i₀ n i = n + length (escaped (drop i s)) ≡ length (escaped s
 abbrev μ-loop : tie.MeasureT-loop
 μ-loop s n₀ i₀ n i = length s - i
 
-loop-holds : tie.Need-loop-holds Inv-loop μ-loop
-loop-holds c = omega arith
-
-shared-slice-read-escaped-byte-size : tie.Need-shared-slice-read-escaped-byte-size Inv-loop μ-loop
-shared-slice-read-escaped-byte-size c = omega arith
-
 escaped-byte-size-requires : tie.Need-escaped-byte-size-requires Inv-loop μ-loop
 escaped-byte-size-requires c κs = tt
 
@@ -46,12 +40,6 @@ add-n c =
     let a = c .before .before .before .before .before in
     omega (arith, again c, length-escaped (a .args .s .now), a .pre)
 
-add-i : tie.Need-add-i Inv-loop μ-loop
-add-i c = omega arith
-
-loop-less : tie.Need-loop-less Inv-loop μ-loop
-loop-less c = omega arith
-
 loop-again : tie.Need-loop-again Inv-loop μ-loop
 loop-again c = again c
 
@@ -64,16 +52,5 @@ returns c =
     omega (arith, l .inv, ap (λ (t : List ℕ). length (escaped t)) (drop-of-length-le s h))
 
 pub escaped-size-spec : {M : Type 1} → statement M
-escaped-size-spec =
-    tie.close
-    (tie.spec
-    Inv-loop
-    μ-loop
-    loop-holds
-    shared-slice-read-escaped-byte-size
-    escaped-byte-size-requires
-    add-n
-    add-i
-    loop-less
-    loop-again
-    returns)
+escaped-size-spec = tie.close (tie.spec Inv-loop μ-loop (λ c. omega arith) (λ c. omega arith) escaped-byte-size-requires add-n (λ c. omega arith)
+    (λ c. omega arith) loop-again returns)

@@ -9,9 +9,6 @@ use Rattle.mailbox.proofs.Laws.Written.{length-quoted, local-plain}
 use Rattle.mailbox.proofs.write.local_size.Statement.{statement}
 use Rattle.mailbox.proofs.write.local_size.Tie as tie
 
-escaped-size-requires : tie.Need-escaped-size-requires
-escaped-size-requires c κs = search needs
-
 add-result : tie.Need-add-result
 add-result c =
     let a = c .before .before .before in
@@ -28,4 +25,4 @@ returns-2 c =
     sym (ap length (local-plain (a .quoted) (a .s .now) (c .if1 .left)))
 
 pub local-size-spec : {M : Type 1} → statement M
-local-size-spec = tie.close (tie.spec escaped-size-requires add-result returns returns-2)
+local-size-spec = tie.close (tie.spec (λ c κs. search needs) add-result returns returns-2)

@@ -19,9 +19,6 @@ size c =
     let a = c .before .before .before .before .args in
     omega (arith, length-bare (localText (a .quoted) (a .local .now)) (a .domain .now), c .local-size .ensures)
 
-local-size-requires : tie.Need-local-size-requires
-local-size-requires c κs = search needs
-
 add-if1 : tie.Need-add-if1
 add-if1 c =
     let a = c .before .before .before .before in
@@ -40,20 +37,8 @@ returns c =
 put-bare-requires : tie.Need-put-bare-requires
 put-bare-requires c κs = omega (arith, size (c .before .before), c .before .if1 .left)
 
-same-length : tie.Need-same-length
-same-length c = search needs
-
 returns-2 : tie.Need-returns-2
 returns-2 c = places-front (c .before .before .put-bare .ensures) (omega (arith, size (c .before .before .before .before .before), c .before .before .before .before .if1 .left))
 
 pub place-bare-spec : {M : Type 1} → statement M
-place-bare-spec =
-    tie.close
-    (tie.spec
-    local-size-requires
-    add-if1
-    add-if1-2
-    returns
-    put-bare-requires
-    same-length
-    returns-2)
+place-bare-spec = tie.close (tie.spec (λ c κs. search needs) add-if1 add-if1-2 returns put-bare-requires (λ c. search needs) returns-2)

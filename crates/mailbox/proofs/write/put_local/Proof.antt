@@ -30,9 +30,6 @@ room c =
 put-requires : tie.Need-put-requires
 put-requires c κs = omega (arith, ap length (plain (c .before)), c .before .before .before .before .pre)
 
-same-length : tie.Need-same-length
-same-length c = search needs
-
 returns : tie.Need-returns
 returns c = rw (plain (c .before .before .before .before)) (c .before .before .put .ensures)
 
@@ -67,15 +64,5 @@ returns-2 c =
     rw (marked (c .before .before .before .before)) (wrote-then (wrote-then quote (c .before .before .put-escaped .ensures)) (wrote-one 34))
 
 pub put-local-spec : {M : Type 1} → statement M
-put-local-spec =
-    tie.close
-    (tie.spec
-    put-requires
-    same-length
-    returns
-    slice-write-out
-    put-escaped-requires
-    slice-write-out-2
-    add-result
-    same-length-2
-    returns-2)
+put-local-spec = tie.close (tie.spec put-requires (λ c. search needs) returns slice-write-out put-escaped-requires slice-write-out-2 add-result
+    same-length-2 returns-2)

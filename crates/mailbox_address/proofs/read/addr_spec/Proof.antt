@@ -13,27 +13,12 @@ use Rattle.mailbox_address.proofs.read.addr_spec.Tie as tie
 read-dotted-requires : tie.Need-read-dotted-requires
 read-dotted-requires c κs = (c .before .before .before .pre .0, ((omega arith, c .before .before .before .pre .1 .0), c .before .before .before .pre .1 .1))
 
-no-spec-requires : tie.Need-no-spec-requires
-no-spec-requires c κs = search needs
-
-same-length : tie.Need-same-length
-same-length c = search needs
-
 returns : tie.Need-returns
 returns c =
     let a = c .before .before .before .before .before .before .before .before .before .before .args in
     let l = c .before .before .before .before .before .before .read-dotted in
     unread (a .s .now) (l .last .0) (l .result .next) (c .no-spec .result) (c .no-spec .ensures) (l .ensures .stands)
     (spec-none (a .s .now) (l .last .0) (l .result) (tokensOf (a .s .now) (a .first)) (l .ensures .told) (not-true (l .result .found) (c .before .if1 .taken)))
-
-is-special-requires : tie.Need-is-special-requires
-is-special-requires c κs = search needs
-
-no-spec-requires-2 : tie.Need-no-spec-requires-2
-no-spec-requires-2 c κs = search needs
-
-same-length-2 : tie.Need-same-length-2
-same-length-2 c = search needs
 
 returns-2 : tie.Need-returns-2
 returns-2 c =
@@ -47,9 +32,6 @@ read-domain-requires : tie.Need-read-domain-requires
 read-domain-requires c κs =
     let l = c .before .before .before .before .before .before .before .before .read-dotted in
     (l .ensures .stands, ((l .ensures .low, search needs), c .before .before .before .before .before .before .before .before .before .before .before .before .pre .1 .1))
-
-same-length-3 : tie.Need-same-length-3
-same-length-3 c = search needs
 
 returns-3 : tie.Need-returns-3
 returns-3 c =
@@ -65,4 +47,4 @@ returns-3 c =
     }
 
 pub addr-spec-spec : {M : Type 1} → statement M
-addr-spec-spec = tie.close (tie.spec read-dotted-requires no-spec-requires same-length returns is-special-requires no-spec-requires-2 same-length-2 returns-2 read-domain-requires same-length-3 returns-3)
+addr-spec-spec = tie.close (tie.spec read-dotted-requires (λ c κs. search needs) (λ c. search needs) returns (λ c κs. search needs) (λ c κs. search needs) (λ c. search needs) returns-2 read-domain-requires (λ c. search needs) returns-3)

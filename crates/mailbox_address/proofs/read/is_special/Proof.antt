@@ -4,21 +4,6 @@ use borrow.Author.Needs.{needs}
 use Rattle.mailbox_address.proofs.read.is_special.Statement.{statement}
 use Rattle.mailbox_address.proofs.read.is_special.Tie as tie
 
-enum-told : tie.Need-enum-told
-enum-told c = search needs
-
-enum-told-2 : tie.Need-enum-told-2
-enum-told-2 c = search needs
-
-enum-known-kind : tie.Need-enum-known-kind
-enum-known-kind c = search needs
-
-enum-told-3 : tie.Need-enum-told-3
-enum-told-3 c = search needs
-
-enum-told-4 : tie.Need-enum-told-4
-enum-told-4 c = search needs
-
 returns : tie.Need-returns
 returns c = search needs
 
@@ -35,4 +20,4 @@ returns-5 : tie.Need-returns-5
 returns-5 c = search needs
 
 pub is-special-spec : {M : Type 1} → statement M
-is-special-spec = tie.close (tie.spec enum-told enum-told-2 enum-known-kind enum-told-3 enum-told-4 returns returns-2 returns-3 returns-4 returns-5)
+is-special-spec = tie.close (tie.spec (λ c. search needs) (λ c. search needs) (λ c. search needs) (λ c. search needs) (λ c. search needs) returns returns-2 returns-3 returns-4 returns-5)

@@ -4,17 +4,11 @@ use borrow.Author.Needs.{needs}
 use Rattle.mailbox_address.proofs.read.put_and_next.Statement.{statement}
 use Rattle.mailbox_address.proofs.read.put_and_next.Tie as tie
 
-put-word-requires : tie.Need-put-word-requires
-put-word-requires c κs = search needs
-
 next-token-requires : tie.Need-next-token-requires
 next-token-requires c κs = (c .before .before .before .before .before .before .pre .0 .high, c .before .before .before .before .before .before .pre .1 .1)
-
-same-length : tie.Need-same-length
-same-length c = search needs
 
 returns : tie.Need-returns
 returns c = record { wrote = c .before .before .before .put-word .ensures; lexed = c .next-token .ensures }
 
 pub put-and-next-spec : {M : Type 1} → statement M
-put-and-next-spec = tie.close (tie.spec put-word-requires next-token-requires same-length returns)
+put-and-next-spec = tie.close (tie.spec (λ c κs. search needs) next-token-requires (λ c. search needs) returns)

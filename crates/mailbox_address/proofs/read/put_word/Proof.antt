@@ -8,27 +8,6 @@ use Rattle.mailbox_address.proofs.Laws.Lexeme.{meaning-length, quoted-s
 use Rattle.mailbox_address.proofs.read.put_word.Statement.{statement}
 use Rattle.mailbox_address.proofs.read.put_word.Tie as tie
 
-enum-told : tie.Need-enum-told
-enum-told c = search needs
-
-sub-put : tie.Need-sub-put
-sub-put c = search needs
-
-part-put-start : tie.Need-part-put-start
-part-put-start c = search needs
-
-part-put-end : tie.Need-part-put-end
-part-put-end c = search needs
-
-put-requires : tie.Need-put-requires
-put-requires c κs = search needs
-
-enum-told-2 : tie.Need-enum-told-2
-enum-told-2 c = search needs
-
-add-put-quoted : tie.Need-add-put-quoted
-add-put-quoted c = search needs
-
 put-quoted-requires : tie.Need-put-quoted-requires
 unfolding meaningAt meaningBy
 put-quoted-requires c κs =
@@ -38,24 +17,9 @@ put-quoted-requires c κs =
       omega (arith, rw e at (meaning-length (b .args .s .now) (b .args .t) (b .pre .0))),
     )
 
-enum-told-3 : tie.Need-enum-told-3
-enum-told-3 c = search needs
-
-enum-told-4 : tie.Need-enum-told-4
-enum-told-4 c = search needs
-
-enum-told-5 : tie.Need-enum-told-5
-enum-told-5 c = search needs
-
-same-length : tie.Need-same-length
-same-length c = search needs
-
 returns : tie.Need-returns
 unfolding meaningAt meaningBy
 returns c = rw (c .before .before .before .before .before .enum-told .given .1) (c .before .before .put .ensures)
-
-same-length-2 : tie.Need-same-length-2
-same-length-2 c = search needs
 
 returns-2 : tie.Need-returns-2
 unfolding meaningAt meaningBy
@@ -74,4 +38,4 @@ unfolding meaningAt meaningBy
 returns-5 c = rw (c .enum-told5 .given .1) wrote-nothing
 
 pub put-word-spec : {M : Type 1} → statement M
-put-word-spec = tie.close (tie.spec enum-told sub-put part-put-start part-put-end put-requires enum-told-2 add-put-quoted put-quoted-requires enum-told-3 enum-told-4 enum-told-5 same-length returns same-length-2 returns-2 returns-3 returns-4 returns-5)
+put-word-spec = tie.close (tie.spec (λ c. search needs) (λ c. search needs) (λ c. search needs) (λ c. search needs) (λ c κs. search needs) (λ c. search needs) (λ c. search needs) put-quoted-requires (λ c. search needs) (λ c. search needs) (λ c. search needs) (λ c. search needs) returns (λ c. search needs) returns-2 returns-3 returns-4 returns-5)

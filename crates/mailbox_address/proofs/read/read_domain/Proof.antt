@@ -23,12 +23,6 @@ read-dotted-requires c κs =
     let n = c .before .next-token .ensures in
     (n .stands, ((omega (arith, n .low, c .before .before .before .before .before .pre .0 .ordered, c .before .before .before .before .before .pre .1 .0 .0), c .before .before .before .before .before .pre .1 .0 .1), c .before .before .before .before .before .pre .1 .1))
 
-no-spec-requires : tie.Need-no-spec-requires
-no-spec-requires c κs = search needs
-
-same-length : tie.Need-same-length
-same-length c = search needs
-
 -- what was read from behind the `@`
 read-on : (c : tie.After-read-dotted)
     → let a = c .before .before .before .before .before .before .args in let d = c .read-dotted in
@@ -44,9 +38,6 @@ returns c =
     unread (a .s .now) (d .last .0) (d .result .next) (c .no-spec .result) (c .no-spec .ensures) (d .ensures .stands)
     (domain-unread (a .s .now) (d .last .0) (take (a .l .size) (a .dst .now)) (a .l .quoted) (d .result) (tokensAt (a .s .now) (a .l .next .end)) (read-on (c .before .before .before .before .before .before)) (not-true (d .result .found) (c .before .if1 .taken)))
 
-same-length-2 : tie.Need-same-length-2
-same-length-2 c = search needs
-
 returns-2 : tie.Need-returns-2
 returns-2 c =
     let a = c .before .before .before .before .before .before .before .before .before .before .before .args in
@@ -57,4 +48,4 @@ returns-2 c =
     record { told = p .0; stands = d .ensures .stands; low = d .ensures .low; parted = p .1 }
 
 pub read-domain-spec : {M : Type 1} → statement M
-read-domain-spec = tie.close (tie.spec next-token-requires read-dotted-requires no-spec-requires same-length returns same-length-2 returns-2)
+read-domain-spec = tie.close (tie.spec next-token-requires read-dotted-requires (λ c κs. search needs) (λ c. search needs) returns (λ c. search needs) returns-2)

@@ -31,9 +31,6 @@ abbrev μ-loop : tie.MeasureT-loop
 loop-holds : tie.Need-loop-holds Inv-loop μ-loop
 loop-holds c = (refl, c .before .before .pre .0, c .before .before .pre .1 .0 .0, refl)
 
-is-allowed-requires : tie.Need-is-allowed-requires Inv-loop μ-loop
-is-allowed-requires c κs = search needs
-
 same-length : tie.Need-same-length Inv-loop μ-loop
 same-length c = c .before .before .loop .inv .3
 
@@ -50,15 +47,6 @@ returns c =
 
 put-and-next-requires : tie.Need-put-and-next-requires Inv-loop μ-loop
 put-and-next-requires c κs = (c .before .before .before .loop .inv .1, ((c .before .before .before .loop .inv .2, omega (arith, c .before .before .before .loop .inv .3, c .before .before .before .before .before .before .pre .1 .0 .1)), c .before .before .before .before .before .before .pre .1 .1))
-
-is-quoted-requires : tie.Need-is-quoted-requires Inv-loop μ-loop
-is-quoted-requires c κs = search needs
-
-either-requires : tie.Need-either-requires Inv-loop μ-loop
-either-requires c κs = search needs
-
-is-special-requires : tie.Need-is-special-requires Inv-loop μ-loop
-is-special-requires c κs = search needs
 
 same-length-2 : tie.Need-same-length-2 Inv-loop μ-loop
 same-length-2 c = wrote-length (c .before .before .before .before .before .before .before .put-and-next .ensures .wrote) ∙ c .before .before .before .before .before .before .before .before .before .before .before .loop .inv .3
@@ -138,4 +126,4 @@ loop-again c =
     )
 
 pub read-dotted-spec : {M : Type 1} → statement M
-read-dotted-spec = tie.close (tie.spec Inv-loop μ-loop loop-holds is-allowed-requires same-length returns put-and-next-requires is-quoted-requires either-requires is-special-requires same-length-2 returns-2 slice-write-dst add-size next-token-requires loop-less loop-again)
+read-dotted-spec = tie.close (tie.spec Inv-loop μ-loop loop-holds (λ c κs. search needs) same-length returns put-and-next-requires (λ c κs. search needs) (λ c κs. search needs) (λ c κs. search needs) same-length-2 returns-2 slice-write-dst add-size next-token-requires loop-less loop-again)

@@ -7,17 +7,11 @@ use Rattle.mailbox_address.proofs.Laws.Route.{no-route, optional-route-
 use Rattle.mailbox_address.proofs.route.optional_route.Statement.{statement}
 use Rattle.mailbox_address.proofs.route.optional_route.Tie as tie
 
-is-word-requires : tie.Need-is-word-requires
-is-word-requires c κs = search needs
-
 returns : tie.Need-returns
 unfolding toldRoute
 returns c =
     let a = c .before .before .before .args in
     record { told = sym (no-route (a .s .now) (a .first) (sym (c .before .is-word .ensures) ∙ c .if1 .taken)); stands = c .before .before .before .pre .0 }
-
-skip-route-requires : tie.Need-skip-route-requires
-skip-route-requires c κs = search needs
 
 returns-2 : tie.Need-returns-2
 returns-2 c =
@@ -26,4 +20,4 @@ returns-2 c =
     record { told = r .told ∙ sym (optional-route-is (a .s .now) (a .first) (sym (c .before .before .is-word .ensures) ∙ c .before .if1 .left)); stands = r .stands }
 
 pub optional-route-spec : {M : Type 1} → statement M
-optional-route-spec = tie.close (tie.spec is-word-requires returns skip-route-requires returns-2)
+optional-route-spec = tie.close (tie.spec (λ c κs. search needs) returns (λ c κs. search needs) returns-2)

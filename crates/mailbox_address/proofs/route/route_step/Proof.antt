@@ -4,27 +4,6 @@ use borrow.Author.Needs.{needs}
 use Rattle.mailbox_address.proofs.route.route_step.Statement.{statement}
 use Rattle.mailbox_address.proofs.route.route_step.Tie as tie
 
-enum-told : tie.Need-enum-told
-enum-told c = search needs
-
-atom-step-requires : tie.Need-atom-step-requires
-atom-step-requires c κs = search needs
-
-enum-told-2 : tie.Need-enum-told-2
-enum-told-2 c = search needs
-
-enum-known-kind : tie.Need-enum-known-kind
-enum-known-kind c = search needs
-
-special-step-requires : tie.Need-special-step-requires
-special-step-requires c κs = search needs
-
-enum-told-3 : tie.Need-enum-told-3
-enum-told-3 c = search needs
-
-enum-told-4 : tie.Need-enum-told-4
-enum-told-4 c = search needs
-
 returns : tie.Need-returns
 returns c = search needs
 
@@ -41,4 +20,4 @@ returns-5 : tie.Need-returns-5
 returns-5 c = search needs
 
 pub route-step-spec : {M : Type 1} → statement M
-route-step-spec = tie.close (tie.spec enum-told atom-step-requires enum-told-2 enum-known-kind special-step-requires enum-told-3 enum-told-4 returns returns-2 returns-3 returns-4 returns-5)
+route-step-spec = tie.close (tie.spec (λ c. search needs) (λ c κs. search needs) (λ c. search needs) (λ c. search needs) (λ c κs. search needs) (λ c. search needs) (λ c. search needs) returns returns-2 returns-3 returns-4 returns-5)

@@ -27,12 +27,6 @@ loop-holds : tie.Need-loop-holds Inv-loop μ-loop
 unfolding routeBy
 loop-holds c = (refl, c .before .pre .0, refl)
 
-route-step-requires : tie.Need-route-step-requires Inv-loop μ-loop
-route-step-requires c κs = search needs
-
-is-broken-requires : tie.Need-is-broken-requires Inv-loop μ-loop
-is-broken-requires c κs = search needs
-
 -- the state behind the present token, and how the route goes on from there
 goes-on : (c : tie.After-route-step Inv-loop μ-loop)
     → let l = c .before .loop in let s = c .before .before .before .args .s .now in
@@ -53,9 +47,6 @@ returns c =
 
 next-token-requires : tie.Need-next-token-requires Inv-loop μ-loop
 next-token-requires c κs = (c .before .before .before .loop .inv .1 .high, c .before .before .before .before .before .pre .1)
-
-is-over-requires : tie.Need-is-over-requires Inv-loop μ-loop
-is-over-requires c κs = search needs
 
 returns-2 : tie.Need-returns-2 Inv-loop μ-loop
 unfolding toldRoute
@@ -86,4 +77,4 @@ loop-again c =
     (goes-on (c .before .before .before .before .before) ∙ ap (routeBy p) (n .ensures .tokens), n .ensures .stands, rw (e, f))
 
 pub skip-route-spec : {M : Type 1} → statement M
-skip-route-spec = tie.close (tie.spec Inv-loop μ-loop loop-holds route-step-requires is-broken-requires returns next-token-requires is-over-requires returns-2 loop-less loop-again)
+skip-route-spec = tie.close (tie.spec Inv-loop μ-loop loop-holds (λ c κs. search needs) (λ c κs. search needs) returns next-token-requires (λ c κs. search needs) returns-2 loop-less loop-again)

@@ -4,33 +4,6 @@ use borrow.Author.Needs.{needs}
 use Rattle.mailbox_address.proofs.route.special_step.Statement.{statement}
 use Rattle.mailbox_address.proofs.route.special_step.Tie as tie
 
-enum-told : tie.Need-enum-told
-enum-told c = search needs
-
-element-step-requires : tie.Need-element-step-requires
-element-step-requires c κs = search needs
-
-enum-told-2 : tie.Need-enum-told-2
-enum-told-2 c = search needs
-
-element-step-requires-2 : tie.Need-element-step-requires-2
-element-step-requires-2 c κs = search needs
-
-enum-told-3 : tie.Need-enum-told-3
-enum-told-3 c = search needs
-
-enum-told-4 : tie.Need-enum-told-4
-enum-told-4 c = search needs
-
-behind-step-requires : tie.Need-behind-step-requires
-behind-step-requires c κs = search needs
-
-enum-told-5 : tie.Need-enum-told-5
-enum-told-5 c = search needs
-
-enum-told-6 : tie.Need-enum-told-6
-enum-told-6 c = search needs
-
 returns : tie.Need-returns
 returns c = rw (c .before .enum-told .given .1) (c .element-step .ensures)
 
@@ -50,4 +23,4 @@ returns-6 : tie.Need-returns-6
 returns-6 c = search needs
 
 pub special-step-spec : {M : Type 1} → statement M
-special-step-spec = tie.close (tie.spec enum-told element-step-requires enum-told-2 element-step-requires-2 enum-told-3 enum-told-4 behind-step-requires enum-told-5 enum-told-6 returns returns-2 returns-3 returns-4 returns-5 returns-6)
+special-step-spec = tie.close (tie.spec (λ c. search needs) (λ c κs. search needs) (λ c. search needs) (λ c κs. search needs) (λ c. search needs) (λ c. search needs) (λ c κs. search needs) (λ c. search needs) (λ c. search needs) returns returns-2 returns-3 returns-4 returns-5 returns-6)

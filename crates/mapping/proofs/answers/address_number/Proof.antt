@@ -5,21 +5,6 @@ use Rattle.mapping.specs.Answers.{addressNumber}
 use Rattle.mapping.proofs.answers.address_number.Statement.{statement}
 use Rattle.mapping.proofs.answers.address_number.Tie as tie
 
-enum-told : tie.Need-enum-told
-enum-told c = search needs
-
-enum-told-2 : tie.Need-enum-told-2
-enum-told-2 c = search needs
-
-enum-told-3 : tie.Need-enum-told-3
-enum-told-3 c = search needs
-
-enum-told-4 : tie.Need-enum-told-4
-enum-told-4 c = search needs
-
-enum-told-5 : tie.Need-enum-told-5
-enum-told-5 c = search needs
-
 returns : tie.Need-returns
 unfolding addressNumber
 returns c = rw (c .enum-told .given .1)
@@ -41,16 +26,5 @@ unfolding addressNumber
 returns-5 c = rw (c .enum-told5 .given .1)
 
 pub address-number-spec : {M : Type 1} → statement M
-address-number-spec =
-    tie.close
-    (tie.spec
-    enum-told
-    enum-told-2
-    enum-told-3
-    enum-told-4
-    enum-told-5
-    returns
-    returns-2
-    returns-3
-    returns-4
-    returns-5)
+address-number-spec = tie.close (tie.spec (λ c. search needs) (λ c. search needs) (λ c. search needs) (λ c. search needs) (λ c. search needs) returns
+    returns-2 returns-3 returns-4 returns-5)

@@ -5,21 +5,6 @@ use Rattle.mapping.specs.Answers.{recordBadLine}
 use Rattle.mapping.proofs.answers.record_line.Statement.{statement}
 use Rattle.mapping.proofs.answers.record_line.Tie as tie
 
-enum-told : tie.Need-enum-told
-enum-told c = search needs
-
-enum-told-2 : tie.Need-enum-told-2
-enum-told-2 c = search needs
-
-enum-told-3 : tie.Need-enum-told-3
-enum-told-3 c = search needs
-
-enum-told-4 : tie.Need-enum-told-4
-enum-told-4 c = search needs
-
-enum-known-answer : tie.Need-enum-known-answer
-enum-known-answer c = search needs
-
 returns : tie.Need-returns
 unfolding recordBadLine
 returns c = rw (c .enum-told .given .1)
@@ -41,16 +26,5 @@ unfolding recordBadLine
 returns-5 c = rw (c .before .answer .given .1)
 
 pub record-line-spec : {M : Type 1} → statement M
-record-line-spec =
-    tie.close
-    (tie.spec
-    enum-told
-    enum-told-2
-    enum-told-3
-    enum-told-4
-    enum-known-answer
-    returns
-    returns-2
-    returns-3
-    returns-4
-    returns-5)
+record-line-spec = tie.close (tie.spec (λ c. search needs) (λ c. search needs) (λ c. search needs) (λ c. search needs) (λ c. search needs) returns
+    returns-2 returns-3 returns-4 returns-5)

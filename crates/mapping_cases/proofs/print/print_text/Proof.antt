@@ -10,21 +10,12 @@ use Rattle.ortext_write.proofs.Laws.Write.{text-bound}
 use Rattle.mapping_cases.proofs.print.print_text.Statement.{statement}
 use Rattle.mapping_cases.proofs.print.print_text.Tie as tie
 
-slice-aggregate-write-text : tie.Need-slice-aggregate-write-text
-slice-aggregate-write-text c = search needs
-
 write-text-requires : tie.Need-write-text-requires
 write-text-requires c κs =
     let s = c .before in
     let r = s .args .rec in
     let l = text-bound (view r) (canonical-view r (s .pre)) 0 in
     omega (arith, l)
-
-slice-aggregate-say : tie.Need-slice-aggregate-say
-slice-aggregate-say c = search needs
-
-say-requires : tie.Need-say-requires
-say-requires c κs = search needs
 
 array-share-prefix-out : tie.Need-array-share-prefix-out
 array-share-prefix-out c =
@@ -41,21 +32,9 @@ slice-aggregate-say-2 c =
     let w = c .before .before .before .before .write-text in
     sym (length-take-le (w .result) (w .last .0) (omega (arith, l, w .ensures .moved)))
 
-say-requires-2 : tie.Need-say-requires-2
-say-requires-2 c κs = search needs
-
 returns : tie.Need-returns
 returns c = search needs
 
 pub print-text-spec : {M : Type 1} → statement M
-print-text-spec =
-    tie.close
-    (tie.spec
-    slice-aggregate-write-text
-    write-text-requires
-    slice-aggregate-say
-    say-requires
-    array-share-prefix-out
-    slice-aggregate-say-2
-    say-requires-2
-    returns)
+print-text-spec = tie.close (tie.spec (λ c. search needs) write-text-requires (λ c. search needs) (λ c κs. search needs) array-share-prefix-out
+    slice-aggregate-say-2 (λ c κs. search needs) returns)

@@ -9,16 +9,10 @@ use Rattle.mapping_cases.proofs.run.run_record.Tie as tie
 returns : tie.Need-returns
 returns c = search needs
 
-array-borrow-prefix-out : tie.Need-array-borrow-prefix-out
-array-borrow-prefix-out c = search needs
-
 slice-aggregate-run-into : tie.Need-slice-aggregate-run-into
 slice-aggregate-run-into c =
     let a = c .before .before .before .args in
     sym (length-take-le (a .n) _ (search needs))
-
-run-into-requires : tie.Need-run-into-requires
-run-into-requires c κs = search needs
 
 returns-2 : tie.Need-returns-2
 returns-2 c = search needs
@@ -26,4 +20,4 @@ returns-2 c = search needs
 pub run-record-spec : {M : Type 1} → statement M
 run-record-spec =
     tie.close
-    (tie.spec returns array-borrow-prefix-out slice-aggregate-run-into run-into-requires returns-2)
+    (tie.spec returns (λ c. search needs) slice-aggregate-run-into (λ c κs. search needs) returns-2)

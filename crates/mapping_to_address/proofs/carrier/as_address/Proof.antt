@@ -14,9 +14,6 @@ use Rattle.mapping_to_address.proofs.carrier.as_address.Tie as tie
 slice-aggregate-read-shape : tie.Need-slice-aggregate-read-shape
 slice-aggregate-read-shape c = let start = c .before .before in sym (length-take-le (start .args .n) (start .args .dst .now) (start .pre .0))
 
-read-shape-requires : tie.Need-read-shape-requires
-read-shape-requires c κs = search needs
-
 -- what was read of the text says whether it is an address
 read : (c : tie.After-read-shape) → let a = c .before .before .before .args in
     inShape (some (take (a .n) (a .dst .now))) ≡ inRead (take (a .n) (a .dst .now)) (c .read-shape .result)
@@ -25,15 +22,6 @@ read c =
     let a = start .args in
     let l = length-take-le (a .n) (a .dst .now) (start .pre .0) in
     in-shape (take (a .n) (a .dst .now)) (c .read-shape .result) (omega (arith, start .pre .1)) (c .read-shape .ensures)
-
-enum-told : tie.Need-enum-told
-enum-told c = search needs
-
-enum-told-2 : tie.Need-enum-told-2
-enum-told-2 c = search needs
-
-enum-told-3 : tie.Need-enum-told-3
-enum-told-3 c = search needs
 
 returns : tie.Need-returns
 unfolding inRead
@@ -60,14 +48,5 @@ returns-3 c =
     read at ∙ ap (inRead (take (a .n) (a .dst .now))) (c .enum-told3 .given .1)
 
 pub as-address-spec : {M : Type 1} → statement M
-as-address-spec =
-    tie.close
-    (tie.spec
-    slice-aggregate-read-shape
-    read-shape-requires
-    enum-told
-    enum-told-2
-    enum-told-3
-    returns
-    returns-2
-    returns-3)
+as-address-spec = tie.close (tie.spec slice-aggregate-read-shape (λ c κs. search needs) (λ c. search needs) (λ c. search needs) (λ c. search needs)
+    returns returns-2 returns-3)

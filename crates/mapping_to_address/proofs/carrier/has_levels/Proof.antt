@@ -10,9 +10,6 @@ use Rattle.mapping.proofs.Laws.Carrier.{levels-most, levels-other, levels-rest}
 use Rattle.mapping_to_address.proofs.carrier.has_levels.Statement.{statement}
 use Rattle.mapping_to_address.proofs.carrier.has_levels.Tie as tie
 
-match-path-requires : tie.Need-match-path-requires
-match-path-requires c κs = search needs
-
 -- as many levels match as there are, at most
 most : (c : tie.After-match-path) → c .match-path .result ≤ 8
 most c =
@@ -34,9 +31,6 @@ mul-result c = omega (arith, most (c .before))
 shared-slice-read-result : tie.Need-shared-slice-read-result
 shared-slice-read-result c = omega (arith, most (c .before .before), c .before .before .before .before .before .before .pre .1 .room)
 
-shared-slice-read-result-2 : tie.Need-shared-slice-read-result-2
-shared-slice-read-result-2 c = search needs
-
 returns-2 : tie.Need-returns-2
 unfolding rowAt
 returns-2 c =
@@ -47,12 +41,4 @@ returns-2 c =
     (start .pre .1) (c .before .before .if1 .left)
 
 pub has-levels-spec : {M : Type 1} → statement M
-has-levels-spec =
-    tie.close
-    (tie.spec
-    match-path-requires
-    returns
-    mul-result
-    shared-slice-read-result
-    shared-slice-read-result-2
-    returns-2)
+has-levels-spec = tie.close (tie.spec (λ c κs. search needs) returns mul-result shared-slice-read-result (λ c. search needs) returns-2)

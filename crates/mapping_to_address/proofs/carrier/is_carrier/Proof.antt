@@ -6,22 +6,13 @@ use Rattle.oraddr.specs.View.{view}
 use Rattle.mapping_to_address.proofs.carrier.is_carrier.Statement.{statement}
 use Rattle.mapping_to_address.proofs.carrier.is_carrier.Tie as tie
 
-has-levels-requires : tie.Need-has-levels-requires
-has-levels-requires c κs = search needs
-
 returns : tie.Need-returns
 returns c = rw (failed (c .before .has-levels .ensures) (c .if1 .taken))
-
-is-nameless-requires : tie.Need-is-nameless-requires
-is-nameless-requires c κs = search needs
 
 returns-2 : tie.Need-returns-2
 returns-2 c =
     let at = c .before .before in
     rw (passed (at .before .has-levels .ensures) (at .if1 .left), failed (c .before .is-nameless .ensures) (c .if2 .taken))
-
-is-one-carrier-requires : tie.Need-is-one-carrier-requires
-is-one-carrier-requires c κs = search needs
 
 returns-3 : tie.Need-returns-3
 unfolding view
@@ -31,12 +22,4 @@ returns-3 c =
     rw (passed (at .before .has-levels .ensures) (at .if1 .left), passed (out .before .is-nameless .ensures) (out .if2 .left)) (c .is-one-carrier .ensures)
 
 pub is-carrier-spec : {M : Type 1} → statement M
-is-carrier-spec =
-    tie.close
-    (tie.spec
-    has-levels-requires
-    returns
-    is-nameless-requires
-    returns-2
-    is-one-carrier-requires
-    returns-3)
+is-carrier-spec = tie.close (tie.spec (λ c κs. search needs) returns (λ c κs. search needs) returns-2 (λ c κs. search needs) returns-3)

@@ -7,12 +7,6 @@ use Rattle.oraddr.specs.View.{kindView}
 use Rattle.mapping_to_address.proofs.carrier.is_carrier_type.Statement.{statement}
 use Rattle.mapping_to_address.proofs.carrier.is_carrier_type.Tie as tie
 
-size-requires : tie.Need-size-requires
-size-requires c κs = search needs
-
-slice-aggregate-same-text : tie.Need-slice-aggregate-same-text
-slice-aggregate-same-text c = search needs
-
 array-share-prefix-bytes : tie.Need-array-share-prefix-bytes
 unfolding kindView
 array-share-prefix-bytes c =
@@ -27,9 +21,6 @@ slice-aggregate-same-text-2 c =
     let kind = size .before .args .kind in
     part-length (kind .len) (kind .bytes) (size .size .result) (size .size .ensures)
 
-same-text-requires : tie.Need-same-text-requires
-same-text-requires c κs = search needs
-
 returns : tie.Need-returns
 unfolding kindView bytes
 returns c =
@@ -38,12 +29,5 @@ returns c =
     rw (part-is (kind .len) (kind .bytes) (size .size .result) (size .size .ensures)) at (c .same-text .ensures)
 
 pub is-carrier-type-spec : {M : Type 1} → statement M
-is-carrier-type-spec =
-    tie.close
-    (tie.spec
-    size-requires
-    slice-aggregate-same-text
-    array-share-prefix-bytes
-    slice-aggregate-same-text-2
-    same-text-requires
-    returns)
+is-carrier-type-spec = tie.close (tie.spec (λ c κs. search needs) (λ c. search needs) array-share-prefix-bytes slice-aggregate-same-text-2
+    (λ c κs. search needs) returns)

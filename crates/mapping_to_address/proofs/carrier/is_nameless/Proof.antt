@@ -73,16 +73,4 @@ returns-2 c =
     sym (l .inv .1 ∙ all-end (λ s. not (nonEmpty s)) (view (start .args .rec) .single) (l .k) (omega (arith, eight start)))
 
 pub is-nameless-spec : {M : Type 1} → statement M
-is-nameless-spec =
-    tie.close
-    (tie.spec
-    Inv-loop
-    μ-loop
-    loop-holds
-    single-requires
-    size-requires
-    returns
-    add-k
-    loop-less
-    loop-again
-    returns-2)
+is-nameless-spec = tie.close (tie.spec Inv-loop μ-loop loop-holds single-requires size-requires returns add-k loop-less loop-again returns-2)

@@ -9,17 +9,8 @@ use Rattle.mapping.proofs.Laws.Carrier.{not-one, only-one}
 use Rattle.mapping_to_address.proofs.carrier.is_one_carrier.Statement.{statement}
 use Rattle.mapping_to_address.proofs.carrier.is_one_carrier.Tie as tie
 
-size-requires : tie.Need-size-requires
-size-requires c κs = search needs
-
 returns : tie.Need-returns
 returns c = not-one (ddsView (c .before .before .args .dds)) (λ e. c .if1 .taken (c .before .size .ensures ∙ e))
-
-item-requires : tie.Need-item-requires
-item-requires c κs = search needs
-
-is-carrier-type-requires : tie.Need-is-carrier-type-requires
-is-carrier-type-requires c κs = search needs
 
 returns-2 : tie.Need-returns-2
 unfolding ddView
@@ -32,4 +23,4 @@ returns-2 c =
 
 pub is-one-carrier-spec : {M : Type 1} → statement M
 is-one-carrier-spec =
-    tie.close (tie.spec size-requires returns item-requires is-carrier-type-requires returns-2)
+    tie.close (tie.spec (λ c κs. search needs) returns (λ c κs. search needs) (λ c κs. search needs) returns-2)

@@ -8,15 +8,6 @@ use Rattle.mapping.proofs.Laws.Carrier.{first-value}
 use Rattle.mapping_to_address.proofs.carrier.write_carried.Statement.{statement}
 use Rattle.mapping_to_address.proofs.carrier.write_carried.Tie as tie
 
-item-requires : tie.Need-item-requires
-item-requires c κs = search needs
-
-write-value-requires : tie.Need-write-value-requires
-write-value-requires c κs = search needs
-
-same-length : tie.Need-same-length
-same-length c = search needs
-
 returns : tie.Need-returns
 unfolding carriedAddress ddView
 returns c =
@@ -26,4 +17,4 @@ returns c =
     rw e at (at .write-value .ensures)
 
 pub write-carried-spec : {M : Type 1} → statement M
-write-carried-spec = tie.close (tie.spec item-requires write-value-requires same-length returns)
+write-carried-spec = tie.close (tie.spec (λ c κs. search needs) (λ c κs. search needs) (λ c. search needs) returns)

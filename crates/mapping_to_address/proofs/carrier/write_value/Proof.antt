@@ -14,9 +14,6 @@ use Rattle.mapping.proofs.Laws.Carrier.{decoded-fits, decoded-front}
 use Rattle.mapping_to_address.proofs.carrier.write_value.Statement.{statement}
 use Rattle.mapping_to_address.proofs.carrier.write_value.Tie as tie
 
-size-requires : tie.Need-size-requires
-size-requires c κs = search needs
-
 array-share-prefix-bytes : tie.Need-array-share-prefix-bytes
 unfolding ddValueView
 array-share-prefix-bytes c =
@@ -37,9 +34,6 @@ decode-requires c κs =
     let value = size .before .before .args .value in
     let room : length (value .bytes) ≡ 128 = search needs in
     omega (arith, length-take (size .size .result) (value .bytes))
-
-enum-known-n : tie.Need-enum-known-n
-enum-known-n c = search needs
 
 -- what decoding the value came to
 decoding : (c : tie.After-decode) → let a = c .before .before .before .before .before .before .args in
@@ -68,21 +62,12 @@ as-address-requires c κs =
     let f = decoded-fits (ddValueView (a .value)) (a .dst .now) (at .decode .last .0) (done .n .given .0 .0) (decoding-done done) (omega (arith, start .pre)) in
     (f .0, omega (arith, f .1))
 
-enum-told : tie.Need-enum-told
-enum-told c = search needs
-
-same-length : tie.Need-same-length
-same-length c = search needs
-
 returns : tie.Need-returns
 returns c =
     let done = c .before .before .before in
     let at = done .before .before .before .before in
     let a = at .before .before .before .before .before .before .args in
     rw (decoded-front (ddValueView (a .value)) (a .dst .now) (at .decode .last .0) (done .n .given .0 .0) (decoding-done done)) (c .as-address .ensures)
-
-same-length-2 : tie.Need-same-length-2
-same-length-2 c = search needs
 
 returns-2 : tie.Need-returns-2
 unfolding Decoding inShape
@@ -93,17 +78,5 @@ returns-2 c =
     rw e
 
 pub write-value-spec : {M : Type 1} → statement M
-write-value-spec =
-    tie.close
-    (tie.spec
-    size-requires
-    array-share-prefix-bytes
-    slice-aggregate-decode
-    decode-requires
-    enum-known-n
-    as-address-requires
-    enum-told
-    same-length
-    returns
-    same-length-2
-    returns-2)
+write-value-spec = tie.close (tie.spec (λ c κs. search needs) array-share-prefix-bytes slice-aggregate-decode decode-requires (λ c. search needs)
+    as-address-requires (λ c. search needs) (λ c. search needs) returns (λ c. search needs) returns-2)

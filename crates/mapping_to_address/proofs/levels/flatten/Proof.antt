@@ -42,28 +42,10 @@ module _ (c : tie.Start Inv-loop μ-loop) where
       k
       (omega (arith, eight))
 
-slice-write-ends : tie.Need-slice-write-ends Inv-loop μ-loop
-slice-write-ends c = search needs
-
 loop-holds : tie.Need-loop-holds Inv-loop μ-loop
 loop-holds c =
     let a = c .before .before .args in
     (search needs, search needs, search needs, search needs, filled-none (levels (view (a .rec))) (a .flat .now) (a .ends .now) (search needs))
-
-put-level-requires : tie.Need-put-level-requires Inv-loop μ-loop
-put-level-requires c κs = search needs
-
-add-k : tie.Need-add-k Inv-loop μ-loop
-add-k c = search needs
-
-mul-ends : tie.Need-mul-ends Inv-loop μ-loop
-mul-ends c = search needs
-
-slice-write-ends-2 : tie.Need-slice-write-ends-2 Inv-loop μ-loop
-slice-write-ends-2 c = search needs
-
-loop-less : tie.Need-loop-less Inv-loop μ-loop
-loop-less c = search needs
 
 loop-again : tie.Need-loop-again Inv-loop μ-loop
 loop-again c =
@@ -79,12 +61,6 @@ loop-again c =
       filled-more (levels (view (start .args .rec))) (at .flat) (p .last .0) (at .ends) (at .k) (at .n) (p .result) (omega arith) w (omega (arith, w .moved)) (at .inv .4),
     )
 
-same-length : tie.Need-same-length Inv-loop μ-loop
-same-length c = search needs
-
-same-length-2 : tie.Need-same-length-2 Inv-loop μ-loop
-same-length-2 c = search needs
-
 returns : tie.Need-returns Inv-loop μ-loop
 returns c =
     let at = c .before .loop in
@@ -94,19 +70,5 @@ returns c =
     filled-all ls (at .n) (at .flat) (at .ends) (eight start) (omega arith) (omega arith) (omega arith) (subst (λ (k : ℕ). Filled ls k (at .n) (at .flat) (at .ends)) e (at .inv .4))
 
 pub flatten-spec : {M : Type 1} → statement M
-flatten-spec =
-    tie.close
-    (tie.spec
-    Inv-loop
-    μ-loop
-    slice-write-ends
-    loop-holds
-    put-level-requires
-    add-k
-    mul-ends
-    slice-write-ends-2
-    loop-less
-    loop-again
-    same-length
-    same-length-2
-    returns)
+flatten-spec = tie.close (tie.spec Inv-loop μ-loop (λ c. search needs) loop-holds (λ c κs. search needs) (λ c. search needs) (λ c. search needs)
+    (λ c. search needs) (λ c. search needs) loop-again (λ c. search needs) (λ c. search needs) returns)

@@ -9,12 +9,6 @@ use Rattle.oraddr.specs.View.{valueView}
 use Rattle.mapping_to_address.proofs.levels.put_level.Statement.{statement}
 use Rattle.mapping_to_address.proofs.levels.put_level.Tie as tie
 
-level-requires : tie.Need-level-requires
-level-requires c κs = search needs
-
-size-requires : tie.Need-size-requires
-size-requires c κs = search needs
-
 array-share-prefix-bytes : tie.Need-array-share-prefix-bytes
 unfolding valueView
 array-share-prefix-bytes c =
@@ -33,9 +27,6 @@ put-requires c κs =
     let room : length (v .bytes) ≡ 64 = search needs in
     omega (arith, length-take (c .before .before .before .size .result) (v .bytes), c .before .before .before .before .before .before .pre .1)
 
-same-length : tie.Need-same-length
-same-length c = search needs
-
 returns : tie.Need-returns
 unfolding valueView
 returns c =
@@ -44,13 +35,5 @@ returns c =
     rw (← at .before .level .ensures, ← part-is (v .len) (v .bytes) (at .size .result) (at .size .ensures)) (c .before .before .put .ensures)
 
 pub put-level-spec : {M : Type 1} → statement M
-put-level-spec =
-    tie.close
-    (tie.spec
-    level-requires
-    size-requires
-    array-share-prefix-bytes
-    slice-aggregate-put
-    put-requires
-    same-length
-    returns)
+put-level-spec = tie.close (tie.spec (λ c κs. search needs) (λ c κs. search needs) array-share-prefix-bytes slice-aggregate-put put-requires
+    (λ c. search needs) returns)

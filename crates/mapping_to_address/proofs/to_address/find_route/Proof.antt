@@ -10,12 +10,6 @@ use borrow.Author.Needs.{needs}
 use Rattle.mapping_to_address.proofs.to_address.find_route.Statement.{statement}
 use Rattle.mapping_to_address.proofs.to_address.find_route.Tie as tie
 
-find-path-requires : tie.Need-find-path-requires
-find-path-requires c κs = search needs
-
-enum-known-i : tie.Need-enum-known-i
-enum-known-i c = search needs
-
 -- the row that was found
 found : (c : tie.After-i) → let a = c .before .before .before .before .before .before .before .args in
     Looked byPath (a .text .now) (a .to-domain .now) (a .table .«to_domain») (levelTokens (a .flat .now) (a .ends .now)) (At (c .i .given .0 .0))
@@ -36,9 +30,6 @@ route-under-requires c κs =
     rw (c .row-at .ensures)
     (start .pre .1 .0 .each i (h .below), (start .pre .1 .1, found-begins byPath (a .text .now) (a .to-domain .now) (levelTokens (a .flat .now) (a .ends .now)) (a .table .«to_domain») i h))
 
-enum-told : tie.Need-enum-told
-enum-told c = search needs
-
 returns : tie.Need-returns
 returns c =
     let at = c .before .before .before in
@@ -54,13 +45,5 @@ returns-2 c =
     (rw (c .before .enum-told .given .1) at (c .before .before .before .find-path .ensures)) (start .pre .0)
 
 pub find-route-spec : {M : Type 1} → statement M
-find-route-spec =
-    tie.close
-    (tie.spec
-    find-path-requires
-    enum-known-i
-    row-at-requires
-    route-under-requires
-    enum-told
-    returns
+find-route-spec = tie.close (tie.spec (λ c κs. search needs) (λ c. search needs) row-at-requires route-under-requires (λ c. search needs) returns
     returns-2)

@@ -82,20 +82,5 @@ returns-3 c =
     ∙ answer-none (outward (a .text .now) (a .to-domain .now) (a .table)) (a .rec) (a .out .now) (good (c .before .before .before .before .before)) (rw (c .before .enum-told .given .1) at (c .before .before .before .before .write-address .ensures))
 
 pub map-record-spec : {M : Type 1} → statement M
-map-record-spec =
-    tie.close
-    (tie.spec
-    is-canonical-requires
-    refused-requires
-    returns
-    slice-aggregate-write-address
-    write-address-requires
-    enum-known-n
-    array-share-prefix-address
-    slice-aggregate-place
-    place-requires
-    enum-told
-    refused-requires-2
-    same-length
-    returns-2
-    returns-3)
+map-record-spec = tie.close (tie.spec is-canonical-requires refused-requires returns slice-aggregate-write-address write-address-requires enum-known-n
+    array-share-prefix-address slice-aggregate-place place-requires enum-told refused-requires-2 same-length returns-2 returns-3)

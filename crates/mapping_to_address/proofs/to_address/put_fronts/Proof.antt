@@ -130,26 +130,5 @@ returns c =
     left-none (at .inv .2) (fronts-end (a .flat .now) (a .ends .now) (a .k) (at .i) (omega arith))
 
 pub put-fronts-spec : {M : Type 1} → statement M
-put-fronts-spec =
-    tie.close
-    (tie.spec
-    Inv-loop
-    μ-loop
-    add-i
-    loop-holds
-    sub-i
-    mul-a
-    shared-slice-read-a
-    add-b
-    mul-b
-    shared-slice-read-b
-    sub-put
-    part-put-start
-    part-put-end
-    put-requires
-    slice-write-dst
-    add-next
-    loop-less
-    loop-again
-    same-length
-    returns)
+put-fronts-spec = tie.close (tie.spec Inv-loop μ-loop add-i loop-holds sub-i mul-a shared-slice-read-a add-b mul-b shared-slice-read-b sub-put
+    part-put-start part-put-end put-requires slice-write-dst add-next loop-less loop-again same-length returns)

@@ -11,21 +11,6 @@ use borrow.Author.Needs.{needs}
 use Rattle.mapping_to_address.proofs.to_address.record_to_address.Statement.{statement}
 use Rattle.mapping_to_address.proofs.to_address.record_to_address.Tie as tie
 
-slice-aggregate-load : tie.Need-slice-aggregate-load
-slice-aggregate-load c = search needs
-
-slice-aggregate-load-2 : tie.Need-slice-aggregate-load-2
-slice-aggregate-load-2 c = search needs
-
-load-requires : tie.Need-load-requires
-load-requires c κs = search needs
-
-enum-known-t : tie.Need-enum-known-t
-enum-known-t c = search needs
-
-slice-aggregate-map-record : tie.Need-slice-aggregate-map-record
-slice-aggregate-map-record c = search needs
-
 -- the table that was read
 loaded : (c : tie.After-t) → let s = c .before .before .before .before .before .before .before .before .before .args .table .now in let l = c .before .before .before .before .load in
     Loading s (loadedFrom s) (Table (c .t .given .0 .0)) (l .last .1 .0) (l .last .1 .1 .0)
@@ -33,15 +18,6 @@ loaded c = rw (c .t .given .1) at (c .before .before .before .before .load .ensu
 
 map-record-requires : tie.Need-map-record-requires
 map-record-requires c κs = let k = loaded (c .before .before .before) .kept in (k .gateway, k .domains)
-
-enum-known-line : tie.Need-enum-known-line
-enum-known-line c = search needs
-
-refused-requires : tie.Need-refused-requires
-refused-requires c κs = search needs
-
-same-length : tie.Need-same-length
-same-length c = search needs
 
 returns : tie.Need-returns
 returns c =
@@ -59,17 +35,5 @@ returns-2 c =
     ∙ answer-malformed (a .table .now) (l .last .1 .0) (l .last .1 .1 .0) (a .rec) (a .out .now) (line .0 .0) (rw (line .1) at (l .ensures))
 
 pub record-to-address-spec : {M : Type 1} → statement M
-record-to-address-spec =
-    tie.close
-    (tie.spec
-    slice-aggregate-load
-    slice-aggregate-load-2
-    load-requires
-    enum-known-t
-    slice-aggregate-map-record
-    map-record-requires
-    enum-known-line
-    refused-requires
-    same-length
-    returns
-    returns-2)
+record-to-address-spec = tie.close (tie.spec (λ c. search needs) (λ c. search needs) (λ c κs. search needs) (λ c. search needs) (λ c. search needs)
+    map-record-requires (λ c. search needs) (λ c κs. search needs) (λ c. search needs) returns returns-2)

@@ -13,9 +13,6 @@ use borrow.Author.Needs.{needs}
 use Rattle.mapping_to_address.proofs.to_address.route_under.Statement.{statement}
 use Rattle.mapping_to_address.proofs.to_address.route_under.Tie as tie
 
-count-levels-requires : tie.Need-count-levels-requires
-count-levels-requires c κs = search needs
-
 -- the levels of the path, by the definition's row, and that there are no more than eight
 own : (c : tie.After-count-levels) → let a = c .before .before .before .before .args in
     c .count-levels .result ≡ length (rowAt (a .text .now) (a .row) .path)
@@ -41,4 +38,4 @@ returns c =
     (start .pre .0) (length-tokens (a .flat .now) (a .ends .now)) (few at) (own at) (c .count-extension .ensures)
 
 pub route-under-spec : {M : Type 1} → statement M
-route-under-spec = tie.close (tie.spec count-levels-requires count-extension-requires returns)
+route-under-spec = tie.close (tie.spec (λ c κs. search needs) count-extension-requires returns)

@@ -11,24 +11,6 @@ use borrow.Author.Needs.{needs}
 use Rattle.mapping_to_address.proofs.to_address.write_address.Statement.{statement}
 use Rattle.mapping_to_address.proofs.to_address.write_address.Tie as tie
 
-slice-aggregate-flatten : tie.Need-slice-aggregate-flatten
-slice-aggregate-flatten c = search needs
-
-slice-aggregate-flatten-2 : tie.Need-slice-aggregate-flatten-2
-slice-aggregate-flatten-2 c = search needs
-
-flatten-requires : tie.Need-flatten-requires
-flatten-requires c κs = search needs
-
-slice-aggregate-is-carrier : tie.Need-slice-aggregate-is-carrier
-slice-aggregate-is-carrier c = search needs
-
-slice-aggregate-is-carrier-2 : tie.Need-slice-aggregate-is-carrier-2
-slice-aggregate-is-carrier-2 c = search needs
-
-is-carrier-requires : tie.Need-is-carrier-requires
-is-carrier-requires c κs = search needs
-
 -- the test is the definition's
 test : (c : tie.After-is-carrier) → let a = c .before .before .before .before .before .before .before .before .before .before .before .before .args in
     c .is-carrier .result ≡ isCarrier (outward (a .text .now) (a .to-domain .now) (a .table)) (view (a .rec))
@@ -37,12 +19,6 @@ test c =
     let f = c .before .before .before .before .before .before .flatten in
     c .is-carrier .ensures ∙ carrier-test (a .text .now) (a .to-domain .now) (f .last .1 .0) (f .last .1 .1 .0) (a .table) (view (a .rec)) (f .ensures)
 
-write-carried-requires : tie.Need-write-carried-requires
-write-carried-requires c κs = search needs
-
-same-length : tie.Need-same-length
-same-length c = search needs
-
 returns : tie.Need-returns
 unfolding view
 returns c =
@@ -50,21 +26,6 @@ returns c =
     let a = at .before .before .before .before .before .before .before .before .before .before .before .before .args in
     rw (address-carried (outward (a .text .now) (a .to-domain .now) (a .table)) (view (a .rec)) (sym (test at) ∙ c .before .before .before .before .before .if1 .taken))
     (c .before .before .write-carried .ensures)
-
-slice-aggregate-find-route : tie.Need-slice-aggregate-find-route
-slice-aggregate-find-route c = search needs
-
-slice-aggregate-find-route-2 : tie.Need-slice-aggregate-find-route-2
-slice-aggregate-find-route-2 c = search needs
-
-find-route-requires : tie.Need-find-route-requires
-find-route-requires c κs = search needs
-
-slice-aggregate-write-routed : tie.Need-slice-aggregate-write-routed
-slice-aggregate-write-routed c = search needs
-
-slice-aggregate-write-routed-2 : tie.Need-slice-aggregate-write-routed-2
-slice-aggregate-write-routed-2 c = search needs
 
 -- the route is the plan of the record
 routed : (c : tie.After-find-route) → let a = c .before .before .before .before .before .before .before .before .before .before .before .before .before .before .before .before .args in
@@ -76,9 +37,6 @@ write-routed-requires c κs =
     let at = c .before .before .before in
     let start = at .before .before .before .before .before .before .before .before .before .before .before .before .before .before .before .before in
     (start .pre .0, (start .pre .1 .1 .1, (at .before .before .before .before .before .before .before .before .before .before .flatten .ensures, (routed at .inside, routed at .few))))
-
-same-length-2 : tie.Need-same-length-2
-same-length-2 c = search needs
 
 returns-2 : tie.Need-returns-2
 returns-2 c =
@@ -92,23 +50,6 @@ returns-2 c =
     (rw (start .pre .0) (length-routed (a .rec) (a .text .now) (f .last .1 .0) (f .last .1 .1 .0) (at .find-route .result) (start .pre .1 .1 .1) (f .ensures) (routed at .inside) (routed at .few))))
 
 pub write-address-spec : {M : Type 1} → statement M
-write-address-spec =
-    tie.close
-    (tie.spec
-    slice-aggregate-flatten
-    slice-aggregate-flatten-2
-    flatten-requires
-    slice-aggregate-is-carrier
-    slice-aggregate-is-carrier-2
-    is-carrier-requires
-    write-carried-requires
-    same-length
-    returns
-    slice-aggregate-find-route
-    slice-aggregate-find-route-2
-    find-route-requires
-    slice-aggregate-write-routed
-    slice-aggregate-write-routed-2
-    write-routed-requires
-    same-length-2
-    returns-2)
+write-address-spec = tie.close (tie.spec (λ c. search needs) (λ c. search needs) (λ c κs. search needs) (λ c. search needs) (λ c. search needs)
+    (λ c κs. search needs) (λ c κs. search needs) (λ c. search needs) returns (λ c. search needs) (λ c. search needs) (λ c κs. search needs)
+    (λ c. search needs) (λ c. search needs) write-routed-requires (λ c. search needs) returns-2)

@@ -142,21 +142,6 @@ returns c =
     (wrote-then (sent (at .before .before .before .before)) (wrote-then (wrote-one 64) (wrote-then (fronted at) (c .before .before .put .ensures))))
 
 pub write-routed-spec : {M : Type 1} → statement M
-write-routed-spec =
-    tie.close
-    (tie.spec
-    slice-aggregate-write-local
-    add-write-local
-    write-local-requires
-    array-share-prefix-local
-    slice-aggregate-put-local
-    put-local-requires
-    slice-write-dst
-    add-put-fronts
-    put-fronts-requires
-    sub-put
-    part-put-start
-    part-put-end
-    put-requires
-    same-length
-    returns)
+write-routed-spec = tie.close (tie.spec slice-aggregate-write-local add-write-local write-local-requires array-share-prefix-local
+    slice-aggregate-put-local put-local-requires slice-write-dst add-put-fronts put-fronts-requires sub-put part-put-start part-put-end put-requires
+    same-length returns)

@@ -68,17 +68,5 @@ returns-2 c =
     (done .with-dd .ensures ∙ ap (addDd (path .add-path .result .«record») carrierType) e)
 
 pub carry-spec : {M : Type 1} → statement M
-carry-spec =
-    tie.close
-    (tie.spec
-    slice-aggregate-put-coded
-    put-coded-requires
-    refused-requires
-    returns
-    empty-requires
-    add-path-requires
-    slice-aggregate-with-dd
-    array-share-prefix-value
-    slice-aggregate-with-dd-2
-    with-dd-requires
-    returns-2)
+carry-spec = tie.close (tie.spec slice-aggregate-put-coded put-coded-requires refused-requires returns empty-requires add-path-requires
+    slice-aggregate-with-dd array-share-prefix-value slice-aggregate-with-dd-2 with-dd-requires returns-2)

@@ -14,21 +14,6 @@ use Rattle.mapping.proofs.Laws.Steps.{inward-same}
 use Rattle.mapping_to_record.proofs.to_record.address_to_record.Statement.{statement}
 use Rattle.mapping_to_record.proofs.to_record.address_to_record.Tie as tie
 
-slice-aggregate-load : tie.Need-slice-aggregate-load
-slice-aggregate-load c = search needs
-
-slice-aggregate-load-2 : tie.Need-slice-aggregate-load-2
-slice-aggregate-load-2 c = search needs
-
-load-requires : tie.Need-load-requires
-load-requires c κs = search needs
-
-enum-known-t : tie.Need-enum-known-t
-enum-known-t c = search needs
-
-slice-aggregate-map-address : tie.Need-slice-aggregate-map-address
-slice-aggregate-map-address c = search needs
-
 -- the table that was loaded
 loaded : (c : tie.After-t) → let l = c .before .before .before .before in
     let s = l .before .before .before .before .before .args .table .now in
@@ -38,12 +23,6 @@ loaded c = rw (c .t .given .1) at (c .before .before .before .before .load .ensu
 
 map-address-requires : tie.Need-map-address-requires
 map-address-requires c κs = let k = loaded (c .before .before) .kept in (k .gateway, k .paths)
-
-enum-known-line : tie.Need-enum-known-line
-enum-known-line c = search needs
-
-refused-requires : tie.Need-refused-requires
-refused-requires c κs = search needs
 
 returns : tie.Need-returns
 unfolding addressToRecord toRecordBy loadAnswer tableAt
@@ -68,16 +47,5 @@ returns-2 c =
     c .refused .ensures ∙ ap (λ (x : lines.TableOutcome). toRecordBy x (a .s .now)) h
 
 pub address-to-record-spec : {M : Type 1} → statement M
-address-to-record-spec =
-    tie.close
-    (tie.spec
-    slice-aggregate-load
-    slice-aggregate-load-2
-    load-requires
-    enum-known-t
-    slice-aggregate-map-address
-    map-address-requires
-    enum-known-line
-    refused-requires
-    returns
-    returns-2)
+address-to-record-spec = tie.close (tie.spec (λ c. search needs) (λ c. search needs) (λ c κs. search needs) (λ c. search needs) (λ c. search needs)
+    map-address-requires (λ c. search needs) (λ c κs. search needs) returns returns-2)

@@ -38,15 +38,4 @@ unfolding reading answered isGood
 returns-4 c = rw (c .enum-told4 .given .1)
 
 pub is-good-spec : {M : Type 1} → statement M
-is-good-spec =
-    tie.close
-    (tie.spec
-    enum-told
-    is-canonical-requires
-    enum-told-2
-    enum-told-3
-    enum-told-4
-    returns
-    returns-2
-    returns-3
-    returns-4)
+is-good-spec = tie.close (tie.spec enum-told is-canonical-requires enum-told-2 enum-told-3 enum-told-4 returns returns-2 returns-3 returns-4)

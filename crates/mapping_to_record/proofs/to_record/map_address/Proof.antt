@@ -66,16 +66,5 @@ returns-3 c =
     c .refused2 .ensures ∙ ap (recordBy (inward (a .text .now) (a .to-path .now) (a .table)) (a .s .now)) h
 
 pub map-address-spec : {M : Type 1} → statement M
-map-address-spec =
-    tie.close
-    (tie.spec
-    read-shape-requires
-    enum-known-parted
-    map-shaped-requires
-    enum-told
-    refused-requires
-    enum-told-2
-    refused-requires-2
-    returns
-    returns-2
-    returns-3)
+map-address-spec = tie.close (tie.spec read-shape-requires enum-known-parted map-shaped-requires enum-told refused-requires enum-told-2
+    refused-requires-2 returns returns-2 returns-3)

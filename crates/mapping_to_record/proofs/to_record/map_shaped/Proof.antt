@@ -9,12 +9,6 @@ use Rattle.mapping.proofs.Laws.Steps.{shaped-carried, shaped-good}
 use Rattle.mapping_to_record.proofs.to_record.map_shaped.Statement.{statement}
 use Rattle.mapping_to_record.proofs.to_record.map_shaped.Tie as tie
 
-read-parted-requires : tie.Need-read-parted-requires
-read-parted-requires c κs = search needs
-
-is-good-requires : tie.Need-is-good-requires
-is-good-requires c κs = search needs
-
 returns : tie.Need-returns
 unfolding toldRecord recordNumber recordBadLine mapped
 returns c =
@@ -23,9 +17,6 @@ returns c =
     let r = at .read-parted .result in
     sym (shaped-good (inward (a .text .now) (a .to-path .now) (a .table)) (addressAt (a .s .now) (a .parted)) (a .s .now) r
     (at .read-parted .ensures) (sym (c .before .before .is-good .ensures) ∙ c .before .if1 .taken))
-
-carry-requires : tie.Need-carry-requires
-carry-requires c κs = search needs
 
 returns-2 : tie.Need-returns-2
 returns-2 c =
@@ -37,4 +28,4 @@ returns-2 c =
 
 pub map-shaped-spec : {M : Type 1} → statement M
 map-shaped-spec =
-    tie.close (tie.spec read-parted-requires is-good-requires returns carry-requires returns-2)
+    tie.close (tie.spec (λ c κs. search needs) (λ c κs. search needs) returns (λ c κs. search needs) returns-2)

@@ -6,18 +6,9 @@ use Rattle.mapping.specs.Answers.{readSettled}
 use Rattle.mapping_to_record.proofs.to_record.read_over.Statement.{statement}
 use Rattle.mapping_to_record.proofs.to_record.read_over.Tie as tie
 
-is-readable-requires : tie.Need-is-readable-requires
-is-readable-requires c κs = search needs
-
-unread-requires : tie.Need-unread-requires
-unread-requires c κs = search needs
-
 returns : tie.Need-returns
 unfolding readSettled
 returns c = rw (failed (c .before .before .is-readable .ensures) (c .before .if1 .taken)) (c .unread .ensures)
-
-read-local-requires : tie.Need-read-local-requires
-read-local-requires c κs = search needs
 
 returns-2 : tie.Need-returns-2
 unfolding readSettled
@@ -25,4 +16,4 @@ returns-2 c = rw (passed (c .before .before .is-readable .ensures) (c .before .i
 
 pub read-over-spec : {M : Type 1} → statement M
 read-over-spec =
-    tie.close (tie.spec is-readable-requires unread-requires returns read-local-requires returns-2)
+    tie.close (tie.spec (λ c κs. search needs) (λ c κs. search needs) returns (λ c κs. search needs) returns-2)

@@ -19,30 +19,12 @@ use Rattle.mapping.proofs.Laws.Steps.{well-no-row, well-other, well-past-bound,
 use Rattle.mapping_to_record.proofs.to_record.read_parted.Statement.{statement}
 use Rattle.mapping_to_record.proofs.to_record.read_parted.Tie as tie
 
-add-from : tie.Need-add-from
-add-from c = search needs
-
-sub-domain : tie.Need-sub-domain
-sub-domain c = search needs
-
-part-domain-start : tie.Need-part-domain-start
-part-domain-start c = search needs
-
-part-domain-end : tie.Need-part-domain-end
-part-domain-end c = search needs
-
-is-domain-requires : tie.Need-is-domain-requires
-is-domain-requires c κs = search needs
-
 -- what was tested is the address's domain
 tested : (c : tie.After-is-domain) → let a = c .before .before .before .before .before .before .args in
     c .is-domain .result ≡ isDomain (drop (a .parted .at + 1) (a .s .now))
 tested c =
     let a = c .before .before .before .before .before .before .args in
     c .is-domain .ensures ∙ ap isDomain (rest-of (a .parted .at + 1) (a .s .now))
-
-unread-requires : tie.Need-unread-requires
-unread-requires c κs = search needs
 
 returns : tie.Need-returns
 unfolding addressAt
@@ -51,9 +33,6 @@ returns c =
     let a = at .before .before .before .before .before .before .args in
     c .unread .ensures
     ∙ sym (well-other (inward (a .text .now) (a .to-path .now) (a .table)) (addressAt (a .s .now) (a .parted)) (failed (tested at) (c .before .if1 .taken)))
-
-settle-under-requires : tie.Need-settle-under-requires
-settle-under-requires c κs = search needs
 
 -- the domain is of domain parts, and what it settles
 parts : (c : tie.After-settle-under) → let a = c .before .before .before .before .before .before .before .before .args in
@@ -65,30 +44,6 @@ settles : (c : tie.After-settle-under) → let a = c .before .before .before .be
 settles c =
     let a = c .before .before .before .before .before .before .before .before .args in
     sym (c .settle-under .ensures ∙ ap (settledUnder (inward (a .text .now) (a .to-path .now) (a .table))) (rest-of (a .parted .at + 1) (a .s .now)))
-
-enum-known-answer : tie.Need-enum-known-answer
-enum-known-answer c = search needs
-
-read-under-requires : tie.Need-read-under-requires
-read-under-requires c κs = search needs
-
-enum-told : tie.Need-enum-told
-enum-told c = search needs
-
-unread-requires-2 : tie.Need-unread-requires-2
-unread-requires-2 c κs = search needs
-
-enum-told-2 : tie.Need-enum-told-2
-enum-told-2 c = search needs
-
-unread-requires-3 : tie.Need-unread-requires-3
-unread-requires-3 c κs = search needs
-
-enum-told-3 : tie.Need-enum-told-3
-enum-told-3 c = search needs
-
-unread-requires-4 : tie.Need-unread-requires-4
-unread-requires-4 c κs = search needs
 
 returns-2 : tie.Need-returns-2
 unfolding addressAt localAt
@@ -129,26 +84,6 @@ returns-5 c =
     (settles at ∙ answer-is (at .settle-under .result) PastBound (c .before .enum-told3 .given .1)))
 
 pub read-parted-spec : {M : Type 1} → statement M
-read-parted-spec =
-    tie.close
-    (tie.spec
-    add-from
-    sub-domain
-    part-domain-start
-    part-domain-end
-    is-domain-requires
-    unread-requires
-    returns
-    settle-under-requires
-    enum-known-answer
-    read-under-requires
-    enum-told
-    unread-requires-2
-    enum-told-2
-    unread-requires-3
-    enum-told-3
-    unread-requires-4
-    returns-2
-    returns-3
-    returns-4
-    returns-5)
+read-parted-spec = tie.close (tie.spec (λ c. search needs) (λ c. search needs) (λ c. search needs) (λ c. search needs) (λ c κs. search needs)
+    (λ c κs. search needs) returns (λ c κs. search needs) (λ c. search needs) (λ c κs. search needs) (λ c. search needs) (λ c κs. search needs)
+    (λ c. search needs) (λ c κs. search needs) (λ c. search needs) (λ c κs. search needs) returns-2 returns-3 returns-4 returns-5)

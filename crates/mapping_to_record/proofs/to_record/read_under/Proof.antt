@@ -11,12 +11,6 @@ use Rattle.mailaddr.proofs.Laws.Shaped.{local-length}
 use Rattle.mapping_to_record.proofs.to_record.read_under.Statement.{statement}
 use Rattle.mapping_to_record.proofs.to_record.read_under.Tie as tie
 
-slice-aggregate-unquote-local : tie.Need-slice-aggregate-unquote-local
-slice-aggregate-unquote-local c = search needs
-
-unquote-local-requires : tie.Need-unquote-local-requires
-unquote-local-requires c κs = search needs
-
 -- the local part fits
 fits : (c : tie.After-unquote-local) → c .unquote-local .result ≤ length (c .unquote-local .last .0)
 fits c =
@@ -31,9 +25,6 @@ slice-aggregate-read-over c =
     let u = c .before .before .unquote-local in
     omega (arith, fits (c .before .before), length-take (u .result) (u .last .0))
 
-read-over-requires : tie.Need-read-over-requires
-read-over-requires c κs = search needs
-
 returns : tie.Need-returns
 returns c =
     let u = c .before .before .before in
@@ -42,12 +33,5 @@ returns c =
     ∙ ap (readSettled (a .n) (a .rec)) (wrote-taken (u .unquote-local .ensures) (omega (arith, local-length (a .s .now) (a .parted))))
 
 pub read-under-spec : {M : Type 1} → statement M
-read-under-spec =
-    tie.close
-    (tie.spec
-    slice-aggregate-unquote-local
-    unquote-local-requires
-    array-share-prefix-local
-    slice-aggregate-read-over
-    read-over-requires
-    returns)
+read-under-spec = tie.close (tie.spec (λ c. search needs) (λ c κs. search needs) array-share-prefix-local slice-aggregate-read-over
+    (λ c κs. search needs) returns)

@@ -6,12 +6,9 @@ use Rattle.ortext_read.specs.Answers.{answered, reading}
 use Rattle.mapping_to_record.proofs.to_record.unread.Statement.{statement}
 use Rattle.mapping_to_record.proofs.to_record.unread.Tie as tie
 
-empty-requires : tie.Need-empty-requires
-empty-requires c κs = search needs
-
 returns : tie.Need-returns
 unfolding reading answered
 returns c = refl
 
 pub unread-spec : {M : Type 1} → statement M
-unread-spec = tie.close (tie.spec empty-requires returns)
+unread-spec = tie.close (tie.spec (λ c κs. search needs) returns)

@@ -12,23 +12,11 @@ use Rattle.oraddr.specs.Bounds.{C, C-LETTERS, boundOf, isCountry}
 use Rattle.oraddr.proofs.bounds.is_country.Statement.{statement}
 use Rattle.oraddr.proofs.bounds.is_country.Tie as tie
 
-bound-requires : tie.Need-bound-requires
-bound-requires c κs = search needs
-
-all-in-requires : tie.Need-all-in-requires
-all-in-requires c κs = search needs
-
 returns : tie.Need-returns
 unfolding isCountry isIn
 returns c =
     let s = c .before .before .before .before .args .s .now in
     c .all-in .ensures ∙ rw (eq-eqb (length s) (boundOf C-LETTERS) (omega arith), ne-eqb (length s) (boundOf C) (omega arith)) (sym (or-false (all isLetter s)))
-
-bound-requires-2 : tie.Need-bound-requires-2
-bound-requires-2 c κs = search needs
-
-all-in-requires-2 : tie.Need-all-in-requires-2
-all-in-requires-2 c κs = search needs
 
 returns-2 : tie.Need-returns-2
 unfolding isCountry isIn
@@ -43,13 +31,5 @@ returns-3 c =
     rw (ne-eqb (length s) (boundOf C-LETTERS) (omega arith), ne-eqb (length s) (boundOf C) (omega arith))
 
 pub is-country-spec : {M : Type 1} → statement M
-is-country-spec =
-    tie.close
-    (tie.spec
-    bound-requires
-    all-in-requires
-    returns
-    bound-requires-2
-    all-in-requires-2
-    returns-2
+is-country-spec = tie.close (tie.spec (λ c κs. search needs) (λ c κs. search needs) returns (λ c κs. search needs) (λ c κs. search needs) returns-2
     returns-3)

@@ -7,9 +7,6 @@ use Rattle.oraddr.proofs.Laws.Text.{one-space, not-space}
 use Rattle.oraddr.proofs.bounds.is_space.Statement.{statement}
 use Rattle.oraddr.proofs.bounds.is_space.Tie as tie
 
-shared-slice-read-result : tie.Need-shared-slice-read-result
-shared-slice-read-result c = search needs
-
 returns : tie.Need-returns
 returns c = sym (one-space (c .before .before .args .s .now) (omega arith))
 
@@ -17,4 +14,4 @@ returns-2 : tie.Need-returns-2
 returns-2 c = sym (not-space (c .before .args .s .now) (omega arith))
 
 pub is-space-spec : {M : Type 1} → statement M
-is-space-spec = tie.close (tie.spec shared-slice-read-result returns returns-2)
+is-space-spec = tie.close (tie.spec (λ c. search needs) returns returns-2)

@@ -9,17 +9,11 @@ use Rattle.oraddr.specs.Bounds.{boundOf, isValue}
 use Rattle.oraddr.proofs.bounds.is_value.Statement.{statement}
 use Rattle.oraddr.proofs.bounds.is_value.Tie as tie
 
-bound-requires : tie.Need-bound-requires
-bound-requires c κs = search needs
-
 returns : tie.Need-returns
 unfolding isValue
 returns c =
     let at = c .before .before .before .args in
     rw (lt-leb (length (at .s .now)) (boundOf (at .k)) (omega arith))
-
-is-text-requires : tie.Need-is-text-requires
-is-text-requires c κs = search needs
 
 returns-2 : tie.Need-returns-2
 unfolding isValue
@@ -28,4 +22,4 @@ returns-2 c =
     c .is-text .ensures ∙ rw (le-leb (length (at .s .now)) (boundOf (at .k)) (omega arith))
 
 pub is-value-spec : {M : Type 1} → statement M
-is-value-spec = tie.close (tie.spec bound-requires returns is-text-requires returns-2)
+is-value-spec = tie.close (tie.spec (λ c κs. search needs) returns (λ c κs. search needs) returns-2)

@@ -8,24 +8,15 @@ use Rattle.oraddr.specs.Bounds.{C, ADMD, rule}
 use Rattle.oraddr.proofs.bounds.keeps_rule.Statement.{statement}
 use Rattle.oraddr.proofs.bounds.keeps_rule.Tie as tie
 
-is-country-requires : tie.Need-is-country-requires
-is-country-requires c κs = search needs
-
 returns : tie.Need-returns
 unfolding rule
 returns c = c .is-country .ensures ∙ rw (eq-eqb (c .before .before .before .args .k) C (omega arith))
-
-is-value-requires : tie.Need-is-value-requires
-is-value-requires c κs = search needs
 
 returns-2 : tie.Need-returns-2
 unfolding rule
 returns-2 c =
     let at = c .before .before .before .before .args in
     rw (ne-eqb (at .k) C (omega arith), sym (c .before .is-value .ensures) ∙ c .if2 .taken)
-
-is-space-requires : tie.Need-is-space-requires
-is-space-requires c κs = search needs
 
 returns-3 : tie.Need-returns-3
 unfolding rule
@@ -41,13 +32,4 @@ returns-4 c =
     rw (ne-eqb (at .k) C (omega arith), sym (c .before .before .is-value .ensures) ∙ c .before .if2 .left, ne-eqb (at .k) ADMD (omega arith))
 
 pub keeps-rule-spec : {M : Type 1} → statement M
-keeps-rule-spec =
-    tie.close
-    (tie.spec
-    is-country-requires
-    returns
-    is-value-requires
-    returns-2
-    is-space-requires
-    returns-3
-    returns-4)
+keeps-rule-spec = tie.close (tie.spec (λ c κs. search needs) returns (λ c κs. search needs) returns-2 (λ c κs. search needs) returns-3 returns-4)

@@ -39,15 +39,6 @@ loop-holds c =
     let self = c .before .args .t1 in
     (omega arith, omega arith, counted-fused ddInRange isDd ddView (self .count) (self .items) (omega arith))
 
-mul-is-dd : tie.Need-mul-is-dd Inv-loop μ-loop
-mul-is-dd c = omega arith
-
-element-copy-out-is-dd : tie.Need-element-copy-out-is-dd Inv-loop μ-loop
-element-copy-out-is-dd c = omega arith
-
-is-dd-requires : tie.Need-is-dd-requires Inv-loop μ-loop
-is-dd-requires c κs = search needs
-
 returns-2 : tie.Need-returns-2 Inv-loop μ-loop
 returns-2 c =
     let at = c .before .before .before .before in
@@ -56,12 +47,6 @@ returns-2 c =
     (at .loop .inv .2
     ∙ part-step passes (self .count) (self .items) (at .loop .i) (record { kind = record { len = 0; bytes = [] }; value = record { len = 0; bytes = [] } }) (omega arith) (omega (arith, simp length-map at (at .before .before .good .0 .1 .1 .1 .0 .1 .0 .1)))
     ∙ rw (failed (c .before .is-dd .ensures) (c .if2 .taken)))
-
-add-i : tie.Need-add-i Inv-loop μ-loop
-add-i c = omega arith
-
-loop-less : tie.Need-loop-less Inv-loop μ-loop
-loop-less c = omega arith
 
 loop-again : tie.Need-loop-again Inv-loop μ-loop
 loop-again c =
@@ -80,18 +65,5 @@ returns-3 c =
     sym (c .before .loop .inv .2 ∙ part-end passes (self .count) (self .items) (c .before .loop .i) (omega arith))
 
 pub canonical-dds-spec : {M : Type 1} → statement M
-canonical-dds-spec =
-    tie.close
-    (tie.spec
-    Inv-loop
-    μ-loop
-    returns
-    loop-holds
-    mul-is-dd
-    element-copy-out-is-dd
-    is-dd-requires
-    returns-2
-    add-i
-    loop-less
-    loop-again
-    returns-3)
+canonical-dds-spec = tie.close (tie.spec Inv-loop μ-loop returns loop-holds (λ c. omega arith) (λ c. omega arith) (λ c κs. search needs) returns-2
+    (λ c. omega arith) (λ c. omega arith) loop-again returns-3)

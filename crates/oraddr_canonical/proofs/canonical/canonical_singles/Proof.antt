@@ -63,17 +63,5 @@ returns-2 c =
     ∙ kept-end (at .before .args .t1 .values) (at .loop .k) (omega (arith, simp length-map at (at .before .good .0 .1 .1 .0 .1 .0 .1))))
 
 pub canonical-singles-spec : {M : Type 1} → statement M
-canonical-singles-spec =
-    tie.close
-    (tie.spec
-    Inv-loop
-    μ-loop
-    loop-holds
-    mul-is-kept
-    element-copy-out-is-kept
-    is-kept-requires
-    returns
-    add-k
-    loop-less
-    loop-again
-    returns-2)
+canonical-singles-spec = tie.close (tie.spec Inv-loop μ-loop loop-holds mul-is-kept element-copy-out-is-kept is-kept-requires returns add-k loop-less
+    loop-again returns-2)

@@ -40,15 +40,6 @@ loop-holds c =
     let self = c .before .args .t1 in
     (omega arith, omega arith, counted-fused (λ v. leb (v .len) (boundOf OU)) isUnit unitView (self .count) (self .names) (omega arith))
 
-mul-is-unit : tie.Need-mul-is-unit Inv-loop μ-loop
-mul-is-unit c = omega arith
-
-element-copy-out-is-unit : tie.Need-element-copy-out-is-unit Inv-loop μ-loop
-element-copy-out-is-unit c = omega arith
-
-is-unit-requires : tie.Need-is-unit-requires Inv-loop μ-loop
-is-unit-requires c κs = search needs
-
 returns-2 : tie.Need-returns-2 Inv-loop μ-loop
 returns-2 c =
     let at = c .before .before .before .before in
@@ -57,12 +48,6 @@ returns-2 c =
     (at .loop .inv .2
     ∙ part-step passes (self .count) (self .names) (at .loop .i) (record { len = 0; bytes = [] }) (omega arith) (omega (arith, simp length-map at (at .before .before .good .0 .1 .1 .1 .0 .1 .0 .1)))
     ∙ rw (failed (c .before .is-unit .ensures) (c .if2 .taken)))
-
-add-i : tie.Need-add-i Inv-loop μ-loop
-add-i c = omega arith
-
-loop-less : tie.Need-loop-less Inv-loop μ-loop
-loop-less c = omega arith
 
 loop-again : tie.Need-loop-again Inv-loop μ-loop
 loop-again c =
@@ -81,18 +66,5 @@ returns-3 c =
     sym (c .before .loop .inv .2 ∙ part-end passes (self .count) (self .names) (c .before .loop .i) (omega arith))
 
 pub canonical-units-spec : {M : Type 1} → statement M
-canonical-units-spec =
-    tie.close
-    (tie.spec
-    Inv-loop
-    μ-loop
-    returns
-    loop-holds
-    mul-is-unit
-    element-copy-out-is-unit
-    is-unit-requires
-    returns-2
-    add-i
-    loop-less
-    loop-again
-    returns-3)
+canonical-units-spec = tie.close (tie.spec Inv-loop μ-loop returns loop-holds (λ c. omega arith) (λ c. omega arith) (λ c κs. search needs) returns-2
+    (λ c. omega arith) (λ c. omega arith) loop-again returns-3)

@@ -38,14 +38,4 @@ returns-4 c =
     ∙ rw (sym (c .before .before .before .before .before .before .has .ensures) ∙ c .before .before .before .before .before .if1 .left, sym (c .before .before .before .before .has2 .ensures) ∙ c .before .before .before .if2 .left, sym (c .before .before .has3 .ensures) ∙ c .before .if3 .left)
 
 pub has-names-with-surname-spec : {M : Type 1} → statement M
-has-names-with-surname-spec =
-    tie.close
-    (tie.spec
-    has-requires
-    returns
-    has-requires-2
-    returns-2
-    has-requires-3
-    returns-3
-    has-requires-4
-    returns-4)
+has-names-with-surname-spec = tie.close (tie.spec has-requires returns has-requires-2 returns-2 has-requires-3 returns-3 has-requires-4 returns-4)

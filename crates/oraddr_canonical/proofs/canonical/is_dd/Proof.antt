@@ -8,22 +8,10 @@ use Rattle.oraddr_canonical.proofs.Laws.{dd-parts}
 use Rattle.oraddr_canonical.proofs.canonical.is_dd.Statement.{statement}
 use Rattle.oraddr_canonical.proofs.canonical.is_dd.Tie as tie
 
-slice-aggregate-is-held : tie.Need-slice-aggregate-is-held
-slice-aggregate-is-held c = search needs
-
-is-held-requires : tie.Need-is-held-requires
-is-held-requires c κs = search needs
-
 returns : tie.Need-returns
 unfolding kindView
 returns c =
     sym (dd-parts (c .before .before .before .before .before .args .item) ∙ rw (failed (c .before .is-held .ensures) (c .if1 .taken)))
-
-slice-aggregate-is-held-2 : tie.Need-slice-aggregate-is-held-2
-slice-aggregate-is-held-2 c = search needs
-
-is-held-requires-2 : tie.Need-is-held-requires-2
-is-held-requires-2 c κs = search needs
 
 returns-2 : tie.Need-returns-2
 unfolding kindView ddValueView
@@ -33,12 +21,4 @@ returns-2 c =
     ∙ sym (dd-parts (at .before .before .before .before .before .args .item) ∙ rw (passed (at .before .is-held .ensures) (at .if1 .left)))
 
 pub is-dd-spec : {M : Type 1} → statement M
-is-dd-spec =
-    tie.close
-    (tie.spec
-    slice-aggregate-is-held
-    is-held-requires
-    returns
-    slice-aggregate-is-held-2
-    is-held-requires-2
-    returns-2)
+is-dd-spec = tie.close (tie.spec (λ c. search needs) (λ c κs. search needs) returns (λ c. search needs) (λ c κs. search needs) returns-2)

@@ -19,13 +19,10 @@ slice-aggregate-is-value c =
     let at = c .before .before .before .args in
     sym (length-take-le (at .len) (at .room .now) (omega arith))
 
-is-value-requires : tie.Need-is-value-requires
-is-value-requires c κs = search needs
-
 returns-2 : tie.Need-returns-2
 returns-2 c =
     let start = c .before .before .before .before in
     c .is-value .ensures ∙ rw (le-leb (start .args .len) (boundOf (start .args .k)) (omega (arith, start .pre .1)))
 
 pub is-held-spec : {M : Type 1} → statement M
-is-held-spec = tie.close (tie.spec returns slice-aggregate-is-value is-value-requires returns-2)
+is-held-spec = tie.close (tie.spec returns slice-aggregate-is-value (λ c κs. search needs) returns-2)

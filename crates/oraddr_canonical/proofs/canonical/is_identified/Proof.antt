@@ -8,15 +8,9 @@ use Rattle.oraddr.specs.View.{ddsView, view}
 use Rattle.oraddr_canonical.proofs.canonical.is_identified.Statement.{statement}
 use Rattle.oraddr_canonical.proofs.canonical.is_identified.Tie as tie
 
-has-requires : tie.Need-has-requires
-has-requires c κs = search needs
-
 returns : tie.Need-returns
 unfolding identified
 returns c = rw (sym (c .before .has .ensures) ∙ c .if1 .taken)
-
-size-requires : tie.Need-size-requires
-size-requires c κs = search needs
 
 returns-2 : tie.Need-returns-2
 unfolding identified view
@@ -25,4 +19,4 @@ returns-2 c =
     rw (sym (at .before .has .ensures) ∙ at .if1 .left, c .size .ensures) (some-test (ddsView (at .before .before .args .rec .dds)))
 
 pub is-identified-spec : {M : Type 1} → statement M
-is-identified-spec = tie.close (tie.spec has-requires returns size-requires returns-2)
+is-identified-spec = tie.close (tie.spec (λ c κs. search needs) returns (λ c κs. search needs) returns-2)

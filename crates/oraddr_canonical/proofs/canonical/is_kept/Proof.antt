@@ -33,9 +33,6 @@ slice-aggregate-keeps-rule c =
     let room : length (value .bytes) ≡ boundOf O = search needs in
     sym (length-take-le (value .len) (value .bytes) (omega arith))
 
-keeps-rule-requires : tie.Need-keeps-rule-requires
-keeps-rule-requires c κs = search needs
-
 returns-3 : tie.Need-returns-3
 unfolding valueView
 returns-3 c =
@@ -46,12 +43,4 @@ returns-3 c =
     (sym (kept-some (c .before .before .before .before .before .args .k) (valueView value) (omega (arith, length-take-le (value .len) (value .bytes) (omega arith)))))
 
 pub is-kept-spec : {M : Type 1} → statement M
-is-kept-spec =
-    tie.close
-    (tie.spec
-    returns
-    returns-2
-    array-share-prefix-bytes
-    slice-aggregate-keeps-rule
-    keeps-rule-requires
-    returns-3)
+is-kept-spec = tie.close (tie.spec returns returns-2 array-share-prefix-bytes slice-aggregate-keeps-rule (λ c κs. search needs) returns-3)

@@ -6,15 +6,9 @@ use Rattle.oraddr.specs.View.{unitView}
 use Rattle.oraddr_canonical.proofs.canonical.is_unit.Statement.{statement}
 use Rattle.oraddr_canonical.proofs.canonical.is_unit.Tie as tie
 
-slice-aggregate-is-held : tie.Need-slice-aggregate-is-held
-slice-aggregate-is-held c = search needs
-
-is-held-requires : tie.Need-is-held-requires
-is-held-requires c κs = search needs
-
 returns : tie.Need-returns
 unfolding isUnit unitView
 returns c = c .is-held .ensures
 
 pub is-unit-spec : {M : Type 1} → statement M
-is-unit-spec = tie.close (tie.spec slice-aggregate-is-held is-held-requires returns)
+is-unit-spec = tie.close (tie.spec (λ c. search needs) (λ c κs. search needs) returns)

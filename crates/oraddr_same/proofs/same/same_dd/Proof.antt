@@ -8,15 +8,9 @@ use Rattle.oraddr.specs.View.{ddView}
 use Rattle.oraddr_same.proofs.same.same_dd.Statement.{statement}
 use Rattle.oraddr_same.proofs.same.same_dd.Tie as tie
 
-same-kind-requires : tie.Need-same-kind-requires
-same-kind-requires c κs = search needs
-
 returns : tie.Need-returns
 unfolding sameDd ddView
 returns c = rw (sym (c .before .same-kind .ensures) ∙ not-true (c .before .same-kind .result) (c .if1 .taken))
-
-same-dd-value-requires : tie.Need-same-dd-value-requires
-same-dd-value-requires c κs = search needs
 
 returns-2 : tie.Need-returns-2
 unfolding sameDd ddView
@@ -25,4 +19,4 @@ returns-2 c =
     rw (sym (at .before .same-kind .ensures) ∙ not-false (at .before .same-kind .result) (at .if1 .left)) (c .same-dd-value .ensures)
 
 pub same-dd-spec : {M : Type 1} → statement M
-same-dd-spec = tie.close (tie.spec same-kind-requires returns same-dd-value-requires returns-2)
+same-dd-spec = tie.close (tie.spec (λ c κs. search needs) returns (λ c κs. search needs) returns-2)

@@ -5,19 +5,10 @@ use Rattle.oraddr.specs.View.{kindView}
 use Rattle.oraddr_same.proofs.same.same_kind.Statement.{statement}
 use Rattle.oraddr_same.proofs.same.same_kind.Tie as tie
 
-slice-aggregate-agree-held : tie.Need-slice-aggregate-agree-held
-slice-aggregate-agree-held c = search needs
-
-slice-aggregate-agree-held-2 : tie.Need-slice-aggregate-agree-held-2
-slice-aggregate-agree-held-2 c = search needs
-
-agree-held-requires : tie.Need-agree-held-requires
-agree-held-requires c κs = search needs
-
 returns : tie.Need-returns
 unfolding kindView
 returns c = c .agree-held .ensures
 
 pub same-kind-spec : {M : Type 1} → statement M
 same-kind-spec =
-    tie.close (tie.spec slice-aggregate-agree-held slice-aggregate-agree-held-2 agree-held-requires returns)
+    tie.close (tie.spec (λ c. search needs) (λ c. search needs) (λ c κs. search needs) returns)

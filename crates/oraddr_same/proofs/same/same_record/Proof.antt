@@ -8,24 +8,15 @@ use Rattle.oraddr.specs.View.{view}
 use Rattle.oraddr_same.proofs.same.same_record.Statement.{statement}
 use Rattle.oraddr_same.proofs.same.same_record.Tie as tie
 
-same-singles-requires : tie.Need-same-singles-requires
-same-singles-requires c κs = search needs
-
 returns : tie.Need-returns
 unfolding sameRecord sameAttributes view
 returns c = rw (sym (c .before .same-singles .ensures) ∙ not-true (c .before .same-singles .result) (c .if1 .taken))
-
-same-units-requires : tie.Need-same-units-requires
-same-units-requires c κs = search needs
 
 returns-2 : tie.Need-returns-2
 unfolding sameRecord sameAttributes view
 returns-2 c =
     let at = c .before .before in
     rw (sym (at .before .same-singles .ensures) ∙ not-false (at .before .same-singles .result) (at .if1 .left), sym (c .before .same-units .ensures) ∙ not-true (c .before .same-units .result) (c .if2 .taken))
-
-same-dds-requires : tie.Need-same-dds-requires
-same-dds-requires c κs = search needs
 
 returns-3 : tie.Need-returns-3
 unfolding sameRecord sameAttributes view
@@ -36,4 +27,4 @@ returns-3 c =
 
 pub same-record-spec : {M : Type 1} → statement M
 same-record-spec =
-    tie.close (tie.spec same-singles-requires returns same-units-requires returns-2 same-dds-requires returns-3)
+    tie.close (tie.spec (λ c κs. search needs) returns (λ c κs. search needs) returns-2 (λ c κs. search needs) returns-3)

@@ -82,19 +82,5 @@ returns-2 c =
     sym (at .loop .inv .3 ∙ agree-end sameText (singlesView (at .before .args .t1)) (singlesView (at .before .args .t2)) (at .loop .k) (omega arith) (omega arith))
 
 pub same-singles-spec : {M : Type 1} → statement M
-same-singles-spec =
-    tie.close
-    (tie.spec
-    Inv-loop
-    μ-loop
-    loop-holds
-    mul-same-value
-    element-copy-out-same-value
-    mul-same-value-2
-    element-copy-out-same-value-2
-    same-value-requires
-    returns
-    add-k
-    loop-less
-    loop-again
-    returns-2)
+same-singles-spec = tie.close (tie.spec Inv-loop μ-loop loop-holds mul-same-value element-copy-out-same-value mul-same-value-2
+    element-copy-out-same-value-2 same-value-requires returns add-k loop-less loop-again returns-2)

@@ -24,12 +24,6 @@ Inv-loop a b n i₀ i =
 abbrev μ-loop : tie.MeasureT-loop
 μ-loop a b n i₀ i = n - i
 
-size-requires : tie.Need-size-requires Inv-loop μ-loop
-size-requires c κs = search needs
-
-size-requires-2 : tie.Need-size-requires-2 Inv-loop μ-loop
-size-requires-2 c κs = search needs
-
 returns : tie.Need-returns Inv-loop μ-loop
 returns c =
     let at = c .before .before .before .args in
@@ -59,9 +53,6 @@ element-copy-out-same-unit-2 c = omega arith
 mul-same-unit-2 : tie.Need-mul-same-unit-2 Inv-loop μ-loop
 mul-same-unit-2 c = let h : c .before .before .loop .i < most = element-copy-out-same-unit-2 c in search needs
 
-same-unit-requires : tie.Need-same-unit-requires Inv-loop μ-loop
-same-unit-requires c κs = search needs
-
 step : (c : tie.After-same-unit Inv-loop μ-loop) →
     let at = c .before .before .before .before in
     let a = at .before .before .before .before .args .t1 in
@@ -80,12 +71,6 @@ step c =
 returns-2 : tie.Need-returns-2 Inv-loop μ-loop
 returns-2 c = sym (step (c .before) ∙ rw (not-true (c .before .same-unit .result) (c .if2 .taken)))
 
-add-i : tie.Need-add-i Inv-loop μ-loop
-add-i c = omega arith
-
-loop-less : tie.Need-loop-less Inv-loop μ-loop
-loop-less c = omega arith
-
 loop-again : tie.Need-loop-again Inv-loop μ-loop
 loop-again c =
     let at = c .before .before .before .before .before in
@@ -98,22 +83,6 @@ returns-3 c =
     sym (at .loop .inv .4 ∙ agree-end sameText (unitsView (u .t1)) (unitsView (u .t2)) (at .loop .i) (omega arith) (omega arith))
 
 pub same-units-spec : {M : Type 1} → statement M
-same-units-spec =
-    tie.close
-    (tie.spec
-    Inv-loop
-    μ-loop
-    size-requires
-    size-requires-2
-    returns
-    loop-holds
-    mul-same-unit
-    element-copy-out-same-unit
-    mul-same-unit-2
-    element-copy-out-same-unit-2
-    same-unit-requires
-    returns-2
-    add-i
-    loop-less
-    loop-again
-    returns-3)
+same-units-spec = tie.close (tie.spec Inv-loop μ-loop (λ c κs. search needs) (λ c κs. search needs) returns loop-holds mul-same-unit
+    element-copy-out-same-unit mul-same-unit-2 element-copy-out-same-unit-2 (λ c κs. search needs) returns-2 (λ c. omega arith) (λ c. omega arith)
+    loop-again returns-3)

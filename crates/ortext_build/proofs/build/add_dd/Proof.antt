@@ -16,17 +16,11 @@ use borrow.Author.Needs.{needs}
 use Rattle.ortext_build.proofs.build.add_dd.Statement.{statement}
 use Rattle.ortext_build.proofs.build.add_dd.Tie as tie
 
-key-name-requires : tie.Need-key-name-requires
-key-name-requires c κs = search needs
-
 array-share-prefix-bytes : tie.Need-array-share-prefix-bytes
 array-share-prefix-bytes c = c .before .key-name .ensures .fits
 
 slice-aggregate-add-typed : tie.Need-slice-aggregate-add-typed
 slice-aggregate-add-typed c = sym (length-take-le _ _ (c .before .before .key-name .ensures .fits))
-
-add-typed-requires : tie.Need-add-typed-requires
-add-typed-requires c κs = search needs
 
 returns : tie.Need-returns
 unfolding kindText
@@ -39,37 +33,12 @@ returns c =
 returns-2 : tie.Need-returns-2
 returns-2 c = let t = c .before .before .before .before .before .before .before in let a = t .args in kind-long (a .rec) (ddAt (a .s .now) (a .places) .kind) _ (omega (arith, ap length (kind-span (a .s .now) (a .places .kind) (c .before .before .if1 .left)), t .pre .0 .half))
 
-slice-aggregate-unquote : tie.Need-slice-aggregate-unquote
-slice-aggregate-unquote c = search needs
-
-unquote-requires : tie.Need-unquote-requires
-unquote-requires c κs = search needs
-
-array-share-prefix-text : tie.Need-array-share-prefix-text
-array-share-prefix-text c = search needs
-
 slice-aggregate-add-typed-2 : tie.Need-slice-aggregate-add-typed-2
 slice-aggregate-add-typed-2 c = fronted-length (c .before .before .unquote .ensures)
-
-add-typed-requires-2 : tie.Need-add-typed-requires-2
-add-typed-requires-2 c κs = search needs
 
 returns-3 : tie.Need-returns-3
 returns-3 c = let a = c .before .before .before .before .before .before .before .before .before .before .before .before .args in c .add-typed2 .ensures ∙ ap (λ t. addDd (a .rec) t (spanText (a .s .now) (a .places .value))) (c .before .before .before .unquote .ensures .holds ∙ sym (kind-span (a .s .now) (a .places .kind) (c .before .before .before .before .before .before .before .if1 .left)))
 
 pub add-dd-spec : {M : Type 1} → statement M
-add-dd-spec =
-    tie.close
-    (tie.spec
-    key-name-requires
-    array-share-prefix-bytes
-    slice-aggregate-add-typed
-    add-typed-requires
-    returns
-    returns-2
-    slice-aggregate-unquote
-    unquote-requires
-    array-share-prefix-text
-    slice-aggregate-add-typed-2
-    add-typed-requires-2
-    returns-3)
+add-dd-spec = tie.close (tie.spec (λ c κs. search needs) array-share-prefix-bytes slice-aggregate-add-typed (λ c κs. search needs) returns returns-2
+    (λ c. search needs) (λ c κs. search needs) (λ c. search needs) slice-aggregate-add-typed-2 (λ c κs. search needs) returns-3)

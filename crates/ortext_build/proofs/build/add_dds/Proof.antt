@@ -49,20 +49,11 @@ element-copy-out-add-dd c = omega (arith, c .before .before .before .pre .few-dd
 add-dd-requires : tie.Need-add-dd-requires Inv-loop μ-loop
 add-dd-requires c κs = (c .before .before .before .before .pre .kinds (c .before .before .loop .i), c .before .before .before .before .pre .values (c .before .before .loop .i))
 
-enum-told : tie.Need-enum-told Inv-loop μ-loop
-enum-told c = search needs
-
 returns : tie.Need-returns Inv-loop μ-loop
 returns c = let r = c .before .before .before .add-dd .result in sym (step (c .before .before .before) ∙ dds-stop _ (told r) (told-refused r (c .enum-told .given .1)))
 
-enum-told-2 : tie.Need-enum-told-2 Inv-loop μ-loop
-enum-told-2 c = search needs
-
 add-i : tie.Need-add-i Inv-loop μ-loop
 add-i c = omega (arith, c .before .before .before .before .before .before .before .before .pre .few-dds)
-
-loop-less : tie.Need-loop-less Inv-loop μ-loop
-loop-less c = omega arith
 
 loop-again : tie.Need-loop-again Inv-loop μ-loop
 loop-again c = let r = c .before .before .before .add-dd .result in (omega arith, step (c .before .before .before) ∙ ap (addDds _) (told-done r (c .enum-told2 .given .1)))
@@ -78,19 +69,5 @@ returns-2 c =
     sym (l .inv .1 ∙ rw (drop-of-length-le (take n dds) h))
 
 pub add-dds-spec : {M : Type 1} → statement M
-add-dds-spec =
-    tie.close
-    (tie.spec
-    Inv-loop
-    μ-loop
-    loop-holds
-    mul-add-dd
-    element-copy-out-add-dd
-    add-dd-requires
-    enum-told
-    returns
-    enum-told-2
-    add-i
-    loop-less
-    loop-again
-    returns-2)
+add-dds-spec = tie.close (tie.spec Inv-loop μ-loop loop-holds mul-add-dd element-copy-out-add-dd add-dd-requires (λ c. search needs) returns
+    (λ c. search needs) add-i (λ c. omega arith) loop-again returns-2)

@@ -16,15 +16,6 @@ use Rattle.ortext_build.proofs.build.add_initials.Tie as tie
 returns : tie.Need-returns
 returns c = let t = c .before .before in let a = t .args in let v = lettersAt (a .n) (drop (a .from) (a .text .now)) in single-long (a .rec) 6 v (omega arith) (omega (arith, length-letters (a .n) (drop (a .from) (a .text .now)) (rw length-drop (omega arith))))
 
-slice-aggregate-put-initials : tie.Need-slice-aggregate-put-initials
-slice-aggregate-put-initials c = search needs
-
-put-initials-requires : tie.Need-put-initials-requires
-put-initials-requires c κs = search needs
-
-array-share-prefix-letters : tie.Need-array-share-prefix-letters
-array-share-prefix-letters c = search needs
-
 -- what the buffer has in front
 part : (c : tie.After-put-initials) → let a = c .before .before .before .before .args in
     let v = lettersAt (a .n) (drop (a .from) (a .text .now)) in (take (a .n) (c .put-initials .last .0) ≡ v) × (length v ≡ a .n)
@@ -37,20 +28,9 @@ part c =
 slice-aggregate-add-value : tie.Need-slice-aggregate-add-value
 slice-aggregate-add-value c = let p = part (c .before .before) in sym (ap length (p .0) ∙ p .1)
 
-add-value-requires : tie.Need-add-value-requires
-add-value-requires c κs = search needs
-
 returns-2 : tie.Need-returns-2
 returns-2 c = let a = c .before .before .before .before .before .before .before .args in c .add-value .ensures ∙ ap (λ t. addSingles 6 (t ∷ []) (start (a .rec))) (part (c .before .before .before) .0)
 
 pub add-initials-spec : {M : Type 1} → statement M
-add-initials-spec =
-    tie.close
-    (tie.spec
-    returns
-    slice-aggregate-put-initials
-    put-initials-requires
-    array-share-prefix-letters
-    slice-aggregate-add-value
-    add-value-requires
-    returns-2)
+add-initials-spec = tie.close (tie.spec returns (λ c. search needs) (λ c κs. search needs) (λ c. search needs) slice-aggregate-add-value
+    (λ c κs. search needs) returns-2)

@@ -14,21 +14,6 @@ use borrow.Author.Needs.{needs}
 use Rattle.ortext_build.proofs.build.add_name.Statement.{statement}
 use Rattle.ortext_build.proofs.build.add_name.Tie as tie
 
-sub-add-value : tie.Need-sub-add-value
-sub-add-value c = search needs
-
-part-add-value-start : tie.Need-part-add-value-start
-part-add-value-start c = search needs
-
-part-add-value-end : tie.Need-part-add-value-end
-part-add-value-end c = search needs
-
-add-value-requires : tie.Need-add-value-requires
-add-value-requires c κs = search needs
-
-enum-told : tie.Need-enum-told
-enum-told c = search needs
-
 -- the surname is all that is left of the text
 surname : (c : tie.After-add-value) → let a = c .before .before .before .args in told (c .add-value .result) ≡ addSingles 4 (drop (a .places .surname) (a .text .now) ∷ []) (start (a .rec))
 surname c =
@@ -43,17 +28,8 @@ returns c =
     let r = c .before .before .add-value .result in
     sym (name-next (t .args .rec) (nameAt (t .args .text .now) (t .args .places)) (told r) (surname (c .before .before)) ∙ singles-stop 5 _ (told r) (told-refused r (c .enum-told .given .1)))
 
-enum-told-2 : tie.Need-enum-told-2
-enum-told-2 c = search needs
-
 slice-aggregate-add-value : tie.Need-slice-aggregate-add-value
 slice-aggregate-add-value c = sym (length-take-le _ _ (c .before .before .before .before .before .before .pre .given))
-
-add-value-requires-2 : tie.Need-add-value-requires-2
-add-value-requires-2 c κs = search needs
-
-enum-told-3 : tie.Need-enum-told-3
-enum-told-3 c = search needs
 
 returns-2 : tie.Need-returns-2
 unfolding nameAt
@@ -62,12 +38,6 @@ returns-2 c =
     let a = c .before .before .before .before .before .before .add-value .result in
     let r = c .before .before .add-value2 .result in
     sym (name-last (t .args .rec) (nameAt (t .args .text .now) (t .args .places)) (told a) (told r) (surname (c .before .before .before .before .before .before)) (c .before .before .add-value2 .ensures ∙ ap (addSingles 5 _) (sym (told-done a (c .before .before .before .before .enum-told2 .given .1)))) ∙ singles-stop 6 _ (told r) (told-refused r (c .enum-told3 .given .1)))
-
-enum-told-4 : tie.Need-enum-told-4
-enum-told-4 c = search needs
-
-add-initials-requires : tie.Need-add-initials-requires
-add-initials-requires c κs = search needs
 
 returns-3 : tie.Need-returns-3
 unfolding nameAt
@@ -78,20 +48,6 @@ returns-3 c =
     c .add-initials .ensures ∙ ap (addSingles 6 _) (sym (told-done r (c .before .enum-told4 .given .1))) ∙ sym (name-last (t .args .rec) (nameAt (t .args .text .now) (t .args .places)) (told a) (told r) (surname (c .before .before .before .before .before .before .before)) (c .before .before .before .add-value2 .ensures ∙ ap (addSingles 5 _) (sym (told-done a (c .before .before .before .before .before .enum-told2 .given .1)))))
 
 pub add-name-spec : {M : Type 1} → statement M
-add-name-spec =
-    tie.close
-    (tie.spec
-    sub-add-value
-    part-add-value-start
-    part-add-value-end
-    add-value-requires
-    enum-told
-    returns
-    enum-told-2
-    slice-aggregate-add-value
-    add-value-requires-2
-    enum-told-3
-    returns-2
-    enum-told-4
-    add-initials-requires
+add-name-spec = tie.close (tie.spec (λ c. search needs) (λ c. search needs) (λ c. search needs) (λ c κs. search needs) (λ c. search needs) returns
+    (λ c. search needs) slice-aggregate-add-value (λ c κs. search needs) (λ c. search needs) returns-2 (λ c. search needs) (λ c κs. search needs)
     returns-3)

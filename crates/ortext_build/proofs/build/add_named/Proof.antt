@@ -8,12 +8,6 @@ use borrow.Author.Needs.{needs}
 use Rattle.ortext_build.proofs.build.add_named.Statement.{statement}
 use Rattle.ortext_build.proofs.build.add_named.Tie as tie
 
-add-singles-requires : tie.Need-add-singles-requires
-add-singles-requires c κs = search needs
-
-enum-told : tie.Need-enum-told
-enum-told c = search needs
-
 returns : tie.Need-returns
 returns c =
     let t = c .before .before .before .before in
@@ -23,17 +17,8 @@ returns c =
     let a = c .before .before .add-singles in
     ap done (held-stop s m r (told (a .result)) (a .ensures) (told-refused (a .result) (c .enum-told .given .1)))
 
-enum-told-2 : tie.Need-enum-told-2
-enum-told-2 c = search needs
-
-element-copy-out-add-pn : tie.Need-element-copy-out-add-pn
-element-copy-out-add-pn c = search needs
-
 add-pn-requires : tie.Need-add-pn-requires
 add-pn-requires c κs = c .before .before .before .before .before .pre .once 10
-
-enum-told-3 : tie.Need-enum-told-3
-enum-told-3 c = search needs
 
 returns-2 : tie.Need-returns-2
 returns-2 c =
@@ -45,15 +30,6 @@ returns-2 c =
     let b = c .before .before .add-pn in
     b .ensures ∙ ap done (held-pn-stop s m r (told (a .result)) (a .ensures) (a .result .«record») (told-done (a .result) (c .before .before .before .before .enum-told2 .given .1)) (sym (b .ensures) ∙ told-none (b .result) (c .enum-told3 .given .1)))
 
-enum-told-4 : tie.Need-enum-told-4
-enum-told-4 c = search needs
-
-add-units-requires : tie.Need-add-units-requires
-add-units-requires c κs = search needs
-
-enum-told-5 : tie.Need-enum-told-5
-enum-told-5 c = search needs
-
 returns-3 : tie.Need-returns-3
 returns-3 c =
     let t = c .before .before .before .before .before .before .before .before .before .before .before in
@@ -64,12 +40,6 @@ returns-3 c =
     let b = c .before .before .before .before .before .add-pn in
     let u = c .before .before .add-units in
     ap done (sym (held-pn s m r (told (a .result)) (a .ensures) (a .result .«record») (told-done (a .result) (c .before .before .before .before .before .before .before .enum-told2 .given .1)) (b .result .«record») (sym (b .ensures) ∙ told-some (b .result) (c .before .before .before .enum-told4 .given .1)) ∙ ap (addDds (heldDds s m)) (sym (u .ensures)) ∙ dds-stop (heldDds s m) (told (u .result)) (told-refused (u .result) (c .enum-told5 .given .1))))
-
-enum-told-6 : tie.Need-enum-told-6
-enum-told-6 c = search needs
-
-add-dds-requires : tie.Need-add-dds-requires
-add-dds-requires c κs = search needs
 
 returns-4 : tie.Need-returns-4
 returns-4 c =
@@ -83,21 +53,6 @@ returns-4 c =
     ap done (c .add-dds .ensures ∙ ap (addDds (heldDds s m)) (sym (told-done (u .result) (c .before .enum-told6 .given .1)) ∙ u .ensures) ∙ sym (held-pn s m r (told (a .result)) (a .ensures) (a .result .«record») (told-done (a .result) (c .before .before .before .before .before .before .before .before .enum-told2 .given .1)) (b .result .«record») (sym (b .ensures) ∙ told-some (b .result) (c .before .before .before .before .enum-told4 .given .1))))
 
 pub add-named-spec : {M : Type 1} → statement M
-add-named-spec =
-    tie.close
-    (tie.spec
-    add-singles-requires
-    enum-told
-    returns
-    enum-told-2
-    element-copy-out-add-pn
-    add-pn-requires
-    enum-told-3
-    returns-2
-    enum-told-4
-    add-units-requires
-    enum-told-5
-    returns-3
-    enum-told-6
-    add-dds-requires
+add-named-spec = tie.close (tie.spec (λ c κs. search needs) (λ c. search needs) returns (λ c. search needs) (λ c. search needs) add-pn-requires
+    (λ c. search needs) returns-2 (λ c. search needs) (λ c κs. search needs) (λ c. search needs) returns-3 (λ c. search needs) (λ c κs. search needs)
     returns-4)

@@ -21,30 +21,12 @@ returns-2 : tie.Need-returns-2
 unfolding addPn done
 returns-2 c = let t = c .before .before .before .before .before in let a = t .args in rw (ne-eqb _ 0 (c .before .before .if1 .left)) (name-long (a .rec) (spanText (a .s .now) (a .span)) (omega (arith, t .pre .half)))
 
-slice-aggregate-unquote : tie.Need-slice-aggregate-unquote
-slice-aggregate-unquote c = search needs
-
-unquote-requires : tie.Need-unquote-requires
-unquote-requires c κs = search needs
-
-array-share-prefix-text : tie.Need-array-share-prefix-text
-array-share-prefix-text c = search needs
-
 slice-aggregate-part : tie.Need-slice-aggregate-part
 slice-aggregate-part c = fronted-length (c .before .before .unquote .ensures)
-
-read-name-requires : tie.Need-read-name-requires
-read-name-requires c κs = search needs
-
-enum-known-places : tie.Need-enum-known-places
-enum-known-places c = search needs
 
 add-name-requires : tie.Need-add-name-requires
 unfolding NameReading
 add-name-requires c κs = rw (c .before .places .given .1) at (c .before .before .before .read-name .ensures)
-
-enum-told : tie.Need-enum-told
-enum-told c = search needs
 
 returns-3 : tie.Need-returns-3
 unfolding addPn NameReading
@@ -61,18 +43,5 @@ returns-4 c =
     rw (ne-eqb _ 0 (c .before .before .before .before .before .before .before .before .before .if1 .left)) (ap (λ o. done (addName (a .rec) o)) (sym p ∙ ap readName (c .before .before .before .before .before .unquote .ensures .holds)))
 
 pub add-pn-spec : {M : Type 1} → statement M
-add-pn-spec =
-    tie.close
-    (tie.spec
-    returns
-    returns-2
-    slice-aggregate-unquote
-    unquote-requires
-    array-share-prefix-text
-    slice-aggregate-part
-    read-name-requires
-    enum-known-places
-    add-name-requires
-    enum-told
-    returns-3
-    returns-4)
+add-pn-spec = tie.close (tie.spec returns returns-2 (λ c. search needs) (λ c κs. search needs) (λ c. search needs) slice-aggregate-part
+    (λ c κs. search needs) (λ c. search needs) add-name-requires (λ c. search needs) returns-3 returns-4)

@@ -17,33 +17,12 @@ returns c = let a = c .before .before .before .args in single-none (a .rec) (a .
 returns-2 : tie.Need-returns-2
 returns-2 c = let t = c .before .before .before .before .before in let a = t .args in single-long (a .rec) (a .k) (spanText (a .s .now) (a .span)) (t .pre .0) (omega (arith, t .pre .1 .half))
 
-slice-aggregate-unquote : tie.Need-slice-aggregate-unquote
-slice-aggregate-unquote c = search needs
-
-unquote-requires : tie.Need-unquote-requires
-unquote-requires c κs = search needs
-
-array-share-prefix-text : tie.Need-array-share-prefix-text
-array-share-prefix-text c = search needs
-
 slice-aggregate-add-value : tie.Need-slice-aggregate-add-value
 slice-aggregate-add-value c = fronted-length (c .before .before .unquote .ensures)
-
-add-value-requires : tie.Need-add-value-requires
-add-value-requires c κs = search needs
 
 returns-3 : tie.Need-returns-3
 returns-3 c = let a = c .before .before .before .before .before .before .before .before .before .before .args in c .add-value .ensures ∙ ap (λ t. addSingles (a .k) (t ∷ []) (start (a .rec))) (c .before .before .before .unquote .ensures .holds)
 
 pub add-single-spec : {M : Type 1} → statement M
-add-single-spec =
-    tie.close
-    (tie.spec
-    returns
-    returns-2
-    slice-aggregate-unquote
-    unquote-requires
-    array-share-prefix-text
-    slice-aggregate-add-value
-    add-value-requires
-    returns-3)
+add-single-spec = tie.close (tie.spec returns returns-2 (λ c. search needs) (λ c κs. search needs) (λ c. search needs) slice-aggregate-add-value
+    (λ c κs. search needs) returns-3)

@@ -37,29 +37,11 @@ step c =
 loop-holds : tie.Need-loop-holds Inv-loop μ-loop
 loop-holds c = (omega arith, refl)
 
-mul-add-single : tie.Need-mul-add-single Inv-loop μ-loop
-mul-add-single c = omega arith
-
-element-copy-out-add-single : tie.Need-element-copy-out-add-single Inv-loop μ-loop
-element-copy-out-add-single c = omega arith
-
 add-single-requires : tie.Need-add-single-requires Inv-loop μ-loop
 add-single-requires c κs = (omega arith, c .before .before .before .before .pre .once (c .before .before .loop .k))
 
-enum-told : tie.Need-enum-told Inv-loop μ-loop
-enum-told c = search needs
-
 returns : tie.Need-returns Inv-loop μ-loop
 returns c = let r = c .before .before .before .add-single .result in sym (step (c .before .before .before) ∙ singles-stop _ _ (told r) (told-refused r (c .enum-told .given .1)))
-
-enum-told-2 : tie.Need-enum-told-2 Inv-loop μ-loop
-enum-told-2 c = search needs
-
-add-k : tie.Need-add-k Inv-loop μ-loop
-add-k c = omega arith
-
-loop-less : tie.Need-loop-less Inv-loop μ-loop
-loop-less c = omega arith
 
 loop-again : tie.Need-loop-again Inv-loop μ-loop
 loop-again c = let r = c .before .before .before .add-single .result in (omega arith, step (c .before .before .before) ∙ ap (addSingles _ _) (told-done r (c .enum-told2 .given .1)))
@@ -74,19 +56,5 @@ returns-2 c =
     sym (l .inv .1 ∙ rw (drop-of-length-le (take singleCount once) h))
 
 pub add-singles-spec : {M : Type 1} → statement M
-add-singles-spec =
-    tie.close
-    (tie.spec
-    Inv-loop
-    μ-loop
-    loop-holds
-    mul-add-single
-    element-copy-out-add-single
-    add-single-requires
-    enum-told
-    returns
-    enum-told-2
-    add-k
-    loop-less
-    loop-again
-    returns-2)
+add-singles-spec = tie.close (tie.spec Inv-loop μ-loop loop-holds (λ c. omega arith) (λ c. omega arith) add-single-requires (λ c. search needs)
+    returns (λ c. search needs) (λ c. omega arith) (λ c. omega arith) loop-again returns-2)

@@ -13,32 +13,12 @@ use Rattle.ortext_build.proofs.build.add_typed.Tie as tie
 returns : tie.Need-returns
 returns c = let t = c .before .before .before .before in let a = t .args in dd-long (a .rec) (a .kind .now) (spanText (a .s .now) (a .value)) (omega (arith, t .pre .half))
 
-slice-aggregate-unquote : tie.Need-slice-aggregate-unquote
-slice-aggregate-unquote c = search needs
-
-unquote-requires : tie.Need-unquote-requires
-unquote-requires c κs = search needs
-
-array-share-prefix-text : tie.Need-array-share-prefix-text
-array-share-prefix-text c = search needs
-
 slice-aggregate-with-dd : tie.Need-slice-aggregate-with-dd
 slice-aggregate-with-dd c = fronted-length (c .before .before .unquote .ensures)
-
-with-dd-requires : tie.Need-with-dd-requires
-with-dd-requires c κs = search needs
 
 returns-2 : tie.Need-returns-2
 returns-2 c = let a = c .before .before .before .before .before .before .before .before .before .args in c .with-dd .ensures ∙ ap (addDd (a .rec) (a .kind .now)) (c .before .before .before .unquote .ensures .holds)
 
 pub add-typed-spec : {M : Type 1} → statement M
-add-typed-spec =
-    tie.close
-    (tie.spec
-    returns
-    slice-aggregate-unquote
-    unquote-requires
-    array-share-prefix-text
-    slice-aggregate-with-dd
-    with-dd-requires
-    returns-2)
+add-typed-spec = tie.close (tie.spec returns (λ c. search needs) (λ c κs. search needs) (λ c. search needs) slice-aggregate-with-dd
+    (λ c κs. search needs) returns-2)

@@ -13,32 +13,12 @@ use Rattle.ortext_build.proofs.build.add_unit.Tie as tie
 returns : tie.Need-returns
 returns c = let t = c .before .before .before in let a = t .args in unit-long (a .rec) (spanText (a .s .now) (a .span)) (omega (arith, t .pre .half))
 
-slice-aggregate-unquote : tie.Need-slice-aggregate-unquote
-slice-aggregate-unquote c = search needs
-
-unquote-requires : tie.Need-unquote-requires
-unquote-requires c κs = search needs
-
-array-share-prefix-text : tie.Need-array-share-prefix-text
-array-share-prefix-text c = search needs
-
 slice-aggregate-with-unit : tie.Need-slice-aggregate-with-unit
 slice-aggregate-with-unit c = fronted-length (c .before .before .unquote .ensures)
-
-with-unit-requires : tie.Need-with-unit-requires
-with-unit-requires c κs = search needs
 
 returns-2 : tie.Need-returns-2
 returns-2 c = let a = c .before .before .before .before .before .before .before .before .args in c .with-unit .ensures ∙ ap (addUnit (a .rec)) (c .before .before .before .unquote .ensures .holds)
 
 pub add-unit-spec : {M : Type 1} → statement M
-add-unit-spec =
-    tie.close
-    (tie.spec
-    returns
-    slice-aggregate-unquote
-    unquote-requires
-    array-share-prefix-text
-    slice-aggregate-with-unit
-    with-unit-requires
-    returns-2)
+add-unit-spec = tie.close (tie.spec returns (λ c. search needs) (λ c κs. search needs) (λ c. search needs) slice-aggregate-with-unit
+    (λ c κs. search needs) returns-2)

@@ -38,9 +38,6 @@ step c =
 loop-holds : tie.Need-loop-holds Inv-loop μ-loop
 loop-holds c = (omega arith, refl)
 
-sub-i : tie.Need-sub-i Inv-loop μ-loop
-sub-i c = omega arith
-
 mul-add-unit : tie.Need-mul-add-unit Inv-loop μ-loop
 mul-add-unit c = omega (arith, c .before .before .before .pre .few-units)
 
@@ -50,17 +47,8 @@ element-copy-out-add-unit c = omega (arith, c .before .before .before .pre .few-
 add-unit-requires : tie.Need-add-unit-requires Inv-loop μ-loop
 add-unit-requires c κs = c .before .before .before .before .pre .units (c .before .before .loop .i - 1)
 
-enum-told : tie.Need-enum-told Inv-loop μ-loop
-enum-told c = search needs
-
 returns : tie.Need-returns Inv-loop μ-loop
 returns c = let r = c .before .before .before .add-unit .result in sym (step (c .before .before .before) ∙ units-stop _ (told r) (told-refused r (c .enum-told .given .1)))
-
-enum-told-2 : tie.Need-enum-told-2 Inv-loop μ-loop
-enum-told-2 c = search needs
-
-loop-less : tie.Need-loop-less Inv-loop μ-loop
-loop-less c = omega arith
 
 loop-again : tie.Need-loop-again Inv-loop μ-loop
 loop-again c = let r = c .before .before .before .add-unit .result in (omega arith, step (c .before .before .before) ∙ ap (addUnits _) (told-done r (c .enum-told2 .given .1)))
@@ -70,19 +58,5 @@ unfolding addUnits
 returns-2 c = let l = c .before .loop in let e : l .i ≡ 0 = omega arith in sym (l .inv .1 ∙ rw e)
 
 pub add-units-spec : {M : Type 1} → statement M
-add-units-spec =
-    tie.close
-    (tie.spec
-    Inv-loop
-    μ-loop
-    loop-holds
-    sub-i
-    mul-add-unit
-    element-copy-out-add-unit
-    add-unit-requires
-    enum-told
-    returns
-    enum-told-2
-    loop-less
-    loop-again
-    returns-2)
+add-units-spec = tie.close (tie.spec Inv-loop μ-loop loop-holds (λ c. omega arith) mul-add-unit element-copy-out-add-unit add-unit-requires
+    (λ c. search needs) returns (λ c. search needs) (λ c. omega arith) loop-again returns-2)

@@ -13,12 +13,9 @@ returns : tie.Need-returns
 unfolding addSingles nonEmpty
 returns c = rw (no-length (c .before .before .args .value .now) (omega arith))
 
-with-single-requires : tie.Need-with-single-requires
-with-single-requires c κs = search needs
-
 returns-2 : tie.Need-returns-2
 unfolding addSingles andThen
 returns-2 c = c .with-single .ensures ∙ rw (some-length (c .before .before .before .args .value .now) (omega arith))
 
 pub add-value-spec : {M : Type 1} → statement M
-add-value-spec = tie.close (tie.spec returns with-single-requires returns-2)
+add-value-spec = tie.close (tie.spec returns (λ c κs. search needs) returns-2)

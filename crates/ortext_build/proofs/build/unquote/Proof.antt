@@ -17,14 +17,8 @@ Inv-loop dst₀ s n₀ i₀ end dst n i =
 abbrev μ-loop : tie.MeasureT-loop
 μ-loop dst₀ s n₀ i₀ end dst n i = end - i
 
-add-end : tie.Need-add-end Inv-loop μ-loop
-add-end c = omega arith
-
 loop-holds : tie.Need-loop-holds Inv-loop μ-loop
 loop-holds c = (omega arith, omega arith, refl, refl)
-
-skip-quote-requires : tie.Need-skip-quote-requires Inv-loop μ-loop
-skip-quote-requires c κs = omega arith
 
 same-length : tie.Need-same-length Inv-loop μ-loop
 same-length c = c .before .before .before .loop .inv .2
@@ -40,18 +34,6 @@ returns c =
       fits = omega arith;
       holds = sym (append-nil (take (l .n) (l .dst))) ∙ ap (λ t. take (l .n) (l .dst) ++ t) (sym e) ∙ l .inv .3 ∙ sym (span-slice (a .s .now) (a .span));
     }
-
-shared-slice-read-dst : tie.Need-shared-slice-read-dst Inv-loop μ-loop
-shared-slice-read-dst c = omega arith
-
-slice-write-dst : tie.Need-slice-write-dst Inv-loop μ-loop
-slice-write-dst c = omega arith
-
-add-n : tie.Need-add-n Inv-loop μ-loop
-add-n c = omega arith
-
-add-i : tie.Need-add-i Inv-loop μ-loop
-add-i c = omega arith
 
 loop-less : tie.Need-loop-less Inv-loop μ-loop
 loop-less c =
@@ -90,21 +72,5 @@ returns-2 c =
     }
 
 pub unquote-spec : {M : Type 1} → statement M
-unquote-spec =
-    tie.close
-    (tie.spec
-    Inv-loop
-    μ-loop
-    add-end
-    loop-holds
-    skip-quote-requires
-    same-length
-    returns
-    shared-slice-read-dst
-    slice-write-dst
-    add-n
-    add-i
-    loop-less
-    loop-again
-    same-length-2
-    returns-2)
+unquote-spec = tie.close (tie.spec Inv-loop μ-loop (λ c. omega arith) loop-holds (λ c κs. omega arith) same-length returns (λ c. omega arith)
+    (λ c. omega arith) (λ c. omega arith) (λ c. omega arith) loop-less loop-again same-length-2 returns-2)

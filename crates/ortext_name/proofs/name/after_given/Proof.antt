@@ -13,18 +13,12 @@ use Rattle.ortext_name.specs.Places.{givenEnd}
 use Rattle.ortext_name.proofs.name.after_given.Statement.{statement}
 use Rattle.ortext_name.proofs.name.after_given.Tie as tie
 
-part-end-requires : tie.Need-part-end-requires
-part-end-requires c κs = search needs
-
 at-dot : (c : tie.After-part-end) → c .part-end .result ≡ run 46 (c .before .before .args .s .now)
 at-dot c = c .part-end .ensures ∙ zero-add (run 46 (c .before .before .args .s .now))
 
 returns : tie.Need-returns
 unfolding givenEnd hasGiven
 returns c = rw (lt-leb 2 (run 46 (c .before .before .before .args .s .now)) (omega (arith, at-dot (c .before))))
-
-add-result : tie.Need-add-result
-add-result c = search needs
 
 returns-2 : tie.Need-returns-2
 unfolding givenEnd hasGiven
@@ -40,4 +34,4 @@ returns-3 c =
     rw (le-ltb (run 46 s) (length s) (omega (arith, at-dot (c .before .before))), and-false)
 
 pub after-given-spec : {M : Type 1} → statement M
-after-given-spec = tie.close (tie.spec part-end-requires returns add-result returns-2 returns-3)
+after-given-spec = tie.close (tie.spec (λ c κs. search needs) returns (λ c. search needs) returns-2 returns-3)

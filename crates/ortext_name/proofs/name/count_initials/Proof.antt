@@ -79,22 +79,5 @@ returns-4 c =
     omega (arith, l .inv .1, ap length (initials-short (drop (l .i) s) (rw length-drop (omega arith))))
 
 pub count-initials-spec : {M : Type 1} → statement M
-count-initials-spec =
-    tie.close
-    (tie.spec
-    Inv-loop
-    μ-loop
-    loop-holds
-    sub-if1
-    returns
-    shared-slice-read-is-letter
-    is-letter-requires
-    returns-2
-    add-if3
-    shared-slice-read-if3
-    returns-3
-    add-n
-    add-i
-    loop-less
-    loop-again
-    returns-4)
+count-initials-spec = tie.close (tie.spec Inv-loop μ-loop loop-holds sub-if1 returns shared-slice-read-is-letter is-letter-requires returns-2 add-if3
+    shared-slice-read-if3 returns-3 add-n add-i loop-less loop-again returns-4)

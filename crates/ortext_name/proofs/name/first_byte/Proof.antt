@@ -8,24 +8,15 @@ use Rattle.ortext_name.proofs.Laws.Name.{first-given, first-initial, fi
 use Rattle.ortext_name.proofs.name.first_byte.Statement.{statement}
 use Rattle.ortext_name.proofs.name.first_byte.Tie as tie
 
-shared-slice-read-result : tie.Need-shared-slice-read-result
-shared-slice-read-result c = search needs
-
 returns : tie.Need-returns
 returns c =
     let a = c .before .before .args in
     first-given (a .given .now) (a .initials .now) (a .surname .now) (omega arith)
 
-shared-slice-read-result-2 : tie.Need-shared-slice-read-result-2
-shared-slice-read-result-2 c = search needs
-
 returns-2 : tie.Need-returns-2
 returns-2 c =
     let a = c .before .before .before .args in
     rw (no-length (a .given .now) (omega arith)) (first-initial (a .initials .now) (a .surname .now) (omega arith))
-
-shared-slice-read-result-3 : tie.Need-shared-slice-read-result-3
-shared-slice-read-result-3 c = search needs
 
 returns-3 : tie.Need-returns-3
 returns-3 c =
@@ -38,13 +29,4 @@ returns-4 c =
     rw (no-length (a .given .now) (omega arith), no-length (a .initials .now) (omega arith), no-length (a .surname .now) (omega arith)) (first-surname [])
 
 pub first-byte-spec : {M : Type 1} → statement M
-first-byte-spec =
-    tie.close
-    (tie.spec
-    shared-slice-read-result
-    returns
-    shared-slice-read-result-2
-    returns-2
-    shared-slice-read-result-3
-    returns-3
-    returns-4)
+first-byte-spec = tie.close (tie.spec (λ c. search needs) returns (λ c. search needs) returns-2 (λ c. search needs) returns-3 returns-4)

@@ -7,11 +7,8 @@ use Rattle.ortext_name.proofs.Laws.Name.{member-run}
 use Rattle.ortext_name.proofs.name.has_dot.Statement.{statement}
 use Rattle.ortext_name.proofs.name.has_dot.Tie as tie
 
-part-end-requires : tie.Need-part-end-requires
-part-end-requires c κs = search needs
-
 returns : tie.Need-returns
 returns c = rw (c .part-end .ensures, zero-add) (sym (member-run (c .before .before .args .s .now)))
 
 pub has-dot-spec : {M : Type 1} → statement M
-has-dot-spec = tie.close (tie.spec part-end-requires returns)
+has-dot-spec = tie.close (tie.spec (λ c κs. search needs) returns)

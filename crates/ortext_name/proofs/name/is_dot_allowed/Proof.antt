@@ -15,9 +15,6 @@ use Rattle.ortext_name.proofs.Laws.Name.{member-run, member-take}
 use Rattle.ortext_name.proofs.name.is_dot_allowed.Statement.{statement}
 use Rattle.ortext_name.proofs.name.is_dot_allowed.Tie as tie
 
-part-end-requires : tie.Need-part-end-requires
-part-end-requires c κs = search needs
-
 at-dot : (c : tie.After-part-end) → c .part-end .result ≡ run 46 (c .before .before .before .before .args .surname .now)
 at-dot c = c .part-end .ensures ∙ zero-add (run 46 (c .before .before .before .before .args .surname .now))
 
@@ -56,4 +53,4 @@ returns-4 c =
     rw (has (c .before .before), late (c .before), no-length (a .given .now) (omega arith)) (some-test (a .initials .now))
 
 pub is-dot-allowed-spec : {M : Type 1} → statement M
-is-dot-allowed-spec = tie.close (tie.spec part-end-requires returns returns-2 returns-3 returns-4)
+is-dot-allowed-spec = tie.close (tie.spec (λ c κs. search needs) returns returns-2 returns-3 returns-4)

@@ -16,17 +16,11 @@ returns : tie.Need-returns
 unfolding isShort nonEmpty
 returns c = rw (no-length (c .before .before .before .before .args .surname .now) (omega arith))
 
-all-in-requires : tie.Need-all-in-requires
-all-in-requires c κs = search needs
-
 returns-2 : tie.Need-returns-2
 unfolding isShort nonEmpty isIn
 returns-2 c =
     let l : all isLetter (c .before .before .before .before .before .before .args .initials .now) ≡ false = sym (c .before .all-in .ensures) ∙ not-true (c .before .all-in .result) (c .if2 .taken) in
     rw (some-length (c .before .before .before .before .before .before .args .surname .now) (omega arith), l)
-
-is-given-short-requires : tie.Need-is-given-short-requires
-is-given-short-requires c κs = search needs
 
 -- what the tests passed say
 some-surname : (c : tie.Else1) → nonEmpty (c .before .before .before .before .args .surname .now) ≡ true
@@ -45,17 +39,11 @@ returns-3 c =
     rw
     (some-surname (c .before .before .before .before), letters (c .before .before), sym (c .before .is-given-short .ensures) ∙ not-true (c .before .is-given-short .result) (c .if3 .taken))
 
-is-dot-allowed-requires : tie.Need-is-dot-allowed-requires
-is-dot-allowed-requires c κs = search needs
-
 returns-4 : tie.Need-returns-4
 unfolding isShort nonEmpty
 returns-4 c =
     rw
     (some-surname (c .before .before .before .before .before .before), letters (c .before .before .before .before), given-short (c .before .before), sym (c .before .is-dot-allowed .ensures) ∙ not-true (c .before .is-dot-allowed .result) (c .if4 .taken))
-
-first-byte-requires : tie.Need-first-byte-requires
-first-byte-requires c κs = search needs
 
 returns-5 : tie.Need-returns-5
 unfolding isShort nonEmpty
@@ -64,15 +52,5 @@ returns-5 c =
     (some-surname (c .before .before .before .before .before .before .before), letters (c .before .before .before .before .before), given-short (c .before .before .before), sym (c .before .before .is-dot-allowed .ensures) ∙ not-false (c .before .before .is-dot-allowed .result) (c .before .if4 .left), c .first-byte .ensures)
 
 pub is-short-spec : {M : Type 1} → statement M
-is-short-spec =
-    tie.close
-    (tie.spec
-    returns
-    all-in-requires
-    returns-2
-    is-given-short-requires
-    returns-3
-    is-dot-allowed-requires
-    returns-4
-    first-byte-requires
-    returns-5)
+is-short-spec = tie.close (tie.spec returns (λ c κs. search needs) returns-2 (λ c κs. search needs) returns-3 (λ c κs. search needs) returns-4
+    (λ c κs. search needs) returns-5)

@@ -27,16 +27,10 @@ slice-write-dst c =
     let g = c .before .before .before .before .before .before .before .args .given .now in
     omega (arith, ap length (given-some g (omega arith)), length-append g (46 ∷ []), c .before .before .before .before .before .before .before .pre, wrote-length (c .before .before .put .ensures), c .before .before .put .ensures .moved)
 
-add-result : tie.Need-add-result
-add-result c = search needs
-
-same-length : tie.Need-same-length
-same-length c = search needs
-
 returns-2 : tie.Need-returns-2
 returns-2 c =
     rw (given-some (c .before .before .before .before .before .before .before .args .given .now) (omega arith)) (wrote-then (c .before .before .put .ensures) (record { moved = refl; holds = refl }))
 
 pub put-given-spec : {M : Type 1} → statement M
 put-given-spec =
-    tie.close (tie.spec returns put-requires slice-write-dst add-result same-length returns-2)
+    tie.close (tie.spec returns put-requires slice-write-dst (λ c. search needs) (λ c. search needs) returns-2)

@@ -28,13 +28,10 @@ put-requires c κs =
     let v = c .before .before .before .put-dotted .ensures in
     omega (arith, room (c .before .before .before .before .before .before .before .before .before .before .before .before .before), w .moved, wrote-length w, v .moved, wrote-length v, length-dotted (c .before .before .before .before .before .before .before .before .before .before .before .before .before .args .initials .now))
 
-same-length : tie.Need-same-length
-same-length c = search needs
-
 returns : tie.Need-returns
 unfolding nameText
 returns c = wrote-then (wrote-then (c .before .before .before .before .before .before .before .before .before .before .put-given .ensures) (c .before .before .before .before .before .before .put-dotted .ensures)) (c .before .before .put .ensures)
 
 pub put-name-spec : {M : Type 1} → statement M
 put-name-spec =
-    tie.close (tie.spec put-given-requires put-dotted-requires put-requires same-length returns)
+    tie.close (tie.spec put-given-requires put-dotted-requires put-requires (λ c. search needs) returns)

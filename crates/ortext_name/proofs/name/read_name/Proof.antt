@@ -10,12 +10,6 @@ use Rattle.ortext_name.proofs.Laws.Name.{given-fits, initials-fit, name
 use Rattle.ortext_name.proofs.name.read_name.Statement.{statement}
 use Rattle.ortext_name.proofs.name.read_name.Tie as tie
 
-after-given-requires : tie.Need-after-given-requires
-after-given-requires c κs = search needs
-
-count-initials-requires : tie.Need-count-initials-requires
-count-initials-requires c κs = search needs
-
 mul-surname : tie.Need-mul-surname
 mul-surname c =
     let s = c .before .before .before .args .s .now in
@@ -30,9 +24,6 @@ returns : tie.Need-returns
 unfolding NameReading
 returns c =
     sym (name-none (c .before .before .before .before .args .s .now) (c .before .before .after-given .result) (c .before .count-initials .result) (c .before .before .after-given .ensures) (c .before .count-initials .ensures) (omega arith))
-
-sub-given : tie.Need-sub-given
-sub-given c = search needs
 
 returns-2 : tie.Need-returns-2
 unfolding NameReading
@@ -61,14 +52,5 @@ returns-3 c =
     }
 
 pub read-name-spec : {M : Type 1} → statement M
-read-name-spec =
-    tie.close
-    (tie.spec
-    after-given-requires
-    count-initials-requires
-    mul-surname
-    add-surname
-    returns
-    sub-given
-    returns-2
+read-name-spec = tie.close (tie.spec (λ c κs. search needs) (λ c κs. search needs) mul-surname add-surname returns (λ c. search needs) returns-2
     returns-3)

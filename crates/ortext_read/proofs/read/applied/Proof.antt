@@ -11,32 +11,14 @@ use borrow.Author.Needs.{needs}
 use Rattle.ortext_read.proofs.read.applied.Statement.{statement}
 use Rattle.ortext_read.proofs.read.applied.Tie as tie
 
-without-record-requires : tie.Need-without-record-requires
-without-record-requires c κs = search needs
-
 returns : tie.Need-returns
 returns c = let a = c .before .before .before .args in answer-again (c .without-record .result) (c .without-record .ensures) ∙ sym (held-again (a .s .now) (a .named) (a .rec) (c .before .if1 .taken))
-
-without-record-requires-2 : tie.Need-without-record-requires-2
-without-record-requires-2 c κs = search needs
 
 returns-2 : tie.Need-returns-2
 returns-2 c = let a = c .before .before .before .before .args in answer-refused (c .without-record2 .result) (c .without-record2 .ensures) ∙ sym (held-refused (a .s .now) (a .named) (a .rec) (c .before .before .if1 .left) (or-left (a .named .bad) (isBeside (a .named)) (c .before .if2 .taken)))
 
-is-beside-requires : tie.Need-is-beside-requires
-is-beside-requires c κs = search needs
-
-without-record-requires-3 : tie.Need-without-record-requires-3
-without-record-requires-3 c κs = search needs
-
 returns-3 : tie.Need-returns-3
 returns-3 c = let a = c .before .before .before .before .before .before .args in answer-refused (c .without-record3 .result) (c .without-record3 .ensures) ∙ sym (held-refused (a .s .now) (a .named) (a .rec) (c .before .before .before .before .if1 .left) (or-right (a .named .bad) (isBeside (a .named)) (sym (c .before .before .is-beside .ensures) ∙ c .before .if3 .taken)))
-
-add-named-requires : tie.Need-add-named-requires
-add-named-requires c κs = search needs
-
-finished-requires : tie.Need-finished-requires
-finished-requires c κs = search needs
 
 returns-4 : tie.Need-returns-4
 returns-4 c = let a = c .before .before .before .before .before .before .before .args in
@@ -45,16 +27,5 @@ returns-4 c = let a = c .before .before .before .before .before .before .before 
     c .finished .ensures ∙ finish-done (told (d .result)) (addHeld (a .s .now) (a .named) (a .rec)) (d .ensures) ∙ sym (held-finished (a .s .now) (a .named) (a .rec) (c .before .before .before .before .before .if1 .left) f)
 
 pub applied-spec : {M : Type 1} → statement M
-applied-spec =
-    tie.close
-    (tie.spec
-    without-record-requires
-    returns
-    without-record-requires-2
-    returns-2
-    is-beside-requires
-    without-record-requires-3
-    returns-3
-    add-named-requires
-    finished-requires
-    returns-4)
+applied-spec = tie.close (tie.spec (λ c κs. search needs) returns (λ c κs. search needs) returns-2 (λ c κs. search needs) (λ c κs. search needs)
+    returns-3 (λ c κs. search needs) (λ c κs. search needs) returns-4)

@@ -8,24 +8,9 @@ use borrow.Author.Needs.{needs}
 use Rattle.ortext_read.proofs.read.as_name.Statement.{statement}
 use Rattle.ortext_read.proofs.read.as_name.Tie as tie
 
-read-name-requires : tie.Need-read-name-requires
-read-name-requires c κs = search needs
-
-enum-known-places : tie.Need-enum-known-places
-enum-known-places c = search needs
-
 add-name-requires : tie.Need-add-name-requires
 unfolding NameReading
 add-name-requires c κs = rw (c .before .places .given .1) at (c .before .before .before .read-name .ensures)
-
-finished-requires : tie.Need-finished-requires
-finished-requires c κs = search needs
-
-enum-told : tie.Need-enum-told
-enum-told c = search needs
-
-without-record-requires : tie.Need-without-record-requires
-without-record-requires c κs = search needs
 
 returns : tie.Need-returns
 unfolding NameReading
@@ -43,14 +28,5 @@ returns-2 c =
     answer-unread (c .without-record .result) (c .without-record .ensures) ∙ unread-name (a .rec) ∙ ap (readAsName (a .rec)) (sym p)
 
 pub as-name-spec : {M : Type 1} → statement M
-as-name-spec =
-    tie.close
-    (tie.spec
-    read-name-requires
-    enum-known-places
-    add-name-requires
-    finished-requires
-    enum-told
-    without-record-requires
-    returns
-    returns-2)
+as-name-spec = tie.close (tie.spec (λ c κs. search needs) (λ c. search needs) add-name-requires (λ c κs. search needs) (λ c. search needs)
+    (λ c κs. search needs) returns returns-2)

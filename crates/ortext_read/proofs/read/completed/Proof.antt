@@ -36,15 +36,5 @@ returns-3 : tie.Need-returns-3
 returns-3 c = let a = c .before .before .before .before .before .before .before .before .before .args in ap (λ o. o .record') (c .before .with-single .ensures) ∙ complete-space (a .rec) (omega (arith, ap length (c .before .before .before .before .before .before .before .before .single .ensures), c .before .before .before .before .before .before .before .size .ensures, c .before .before .before .before .before .before .if1 .left)) (omega (arith, ap length (c .before .before .before .before .before .single2 .ensures), c .before .before .before .before .size2 .ensures, c .before .before .before .if2 .left))
 
 pub completed-spec : {M : Type 1} → statement M
-completed-spec =
-    tie.close
-    (tie.spec
-    single-requires
-    size-requires
-    returns
-    single-requires-2
-    size-requires-2
-    returns-2
-    slice-aggregate-with-single
-    with-single-requires
-    returns-3)
+completed-spec = tie.close (tie.spec single-requires size-requires returns single-requires-2 size-requires-2 returns-2 slice-aggregate-with-single
+    with-single-requires returns-3)

@@ -10,18 +10,6 @@ use borrow.Author.Needs.{needs}
 use Rattle.ortext_read.proofs.read.finished.Statement.{statement}
 use Rattle.ortext_read.proofs.read.finished.Tie as tie
 
-enum-told : tie.Need-enum-told
-enum-told c = search needs
-
-completed-requires : tie.Need-completed-requires
-completed-requires c κs = search needs
-
-enum-told-2 : tie.Need-enum-told-2
-enum-told-2 c = search needs
-
-without-record-requires : tie.Need-without-record-requires
-without-record-requires c κs = search needs
-
 returns : tie.Need-returns
 unfolding reading answered
 returns c = let a = c .before .before .before .args in ap read (c .completed .ensures) ∙ sym (ap finish (told-done (a .done) (c .before .enum-told .given .1)) ∙ finish-start (a .done .«record»))
@@ -30,4 +18,4 @@ returns-2 : tie.Need-returns-2
 returns-2 c = let a = c .before .before .before .args in answer-refused (c .without-record .result) (c .without-record .ensures) ∙ sym (finish-refused (told (a .done)) (told-refused (a .done) (c .before .enum-told2 .given .1)))
 
 pub finished-spec : {M : Type 1} → statement M
-finished-spec = tie.close (tie.spec enum-told completed-requires enum-told-2 without-record-requires returns returns-2)
+finished-spec = tie.close (tie.spec (λ c. search needs) (λ c κs. search needs) (λ c. search needs) (λ c κs. search needs) returns returns-2)

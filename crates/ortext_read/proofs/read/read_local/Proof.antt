@@ -6,24 +6,6 @@ use borrow.Author.Needs.{needs}
 use Rattle.ortext_read.proofs.read.read_local.Statement.{statement}
 use Rattle.ortext_read.proofs.read.read_local.Tie as tie
 
-read-text-requires : tie.Need-read-text-requires
-read-text-requires c κs = search needs
-
-enum-told : tie.Need-enum-told
-enum-told c = search needs
-
-as-name-requires : tie.Need-as-name-requires
-as-name-requires c κs = search needs
-
-enum-told-2 : tie.Need-enum-told-2
-enum-told-2 c = search needs
-
-enum-told-3 : tie.Need-enum-told-3
-enum-told-3 c = search needs
-
-enum-told-4 : tie.Need-enum-told-4
-enum-told-4 c = search needs
-
 returns : tie.Need-returns
 returns c = let a = c .before .before .before .before .before .args in let f = c .before .before .before .read-text in c .as-name .ensures ∙ local-name (a .n) (a .rec) (a .s .now) (f .result) (f .ensures) (c .before .enum-told .given .1)
 
@@ -40,16 +22,5 @@ unfolding isUnread
 returns-4 c = let a = c .before .before .before .before .args in let f = c .before .before .read-text in local-text (a .n) (a .rec) (a .s .now) (f .result) (f .ensures) (ap isUnread (c .enum-told4 .given .1))
 
 pub read-local-spec : {M : Type 1} → statement M
-read-local-spec =
-    tie.close
-    (tie.spec
-    read-text-requires
-    enum-told
-    as-name-requires
-    enum-told-2
-    enum-told-3
-    enum-told-4
-    returns
-    returns-2
-    returns-3
-    returns-4)
+read-local-spec = tie.close (tie.spec (λ c κs. search needs) (λ c. search needs) (λ c κs. search needs) (λ c. search needs) (λ c. search needs)
+    (λ c. search needs) returns returns-2 returns-3 returns-4)

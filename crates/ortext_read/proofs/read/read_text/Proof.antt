@@ -20,35 +20,14 @@ Inv-loop rec n s named₀ at₀ named at = Scanned s n at named
 abbrev μ-loop : tie.MeasureT-loop
 μ-loop rec n s named₀ at₀ named at = length s - at
 
-without-record-requires : tie.Need-without-record-requires Inv-loop μ-loop
-without-record-requires c κs = search needs
-
 returns : tie.Need-returns Inv-loop μ-loop
 returns c = let a = c .before .before .before .args in answer-unread (c .without-record .result) (c .without-record .ensures) ∙ sym (unread-other (a .s .now) (a .n) (a .rec) (read-short keys (a .s .now) (omega arith)))
-
-shared-slice-read-if2 : tie.Need-shared-slice-read-if2 Inv-loop μ-loop
-shared-slice-read-if2 c = omega arith
-
-without-record-requires-2 : tie.Need-without-record-requires-2 Inv-loop μ-loop
-without-record-requires-2 c κs = search needs
 
 returns-2 : tie.Need-returns-2 Inv-loop μ-loop
 returns-2 c = let a = c .before .before .before .before .before .args in answer-unread (c .without-record2 .result) (c .without-record2 .ensures) ∙ sym (unread-other (a .s .now) (a .n) (a .rec) (read-other keys (a .s .now) (c .before .if2 .taken)))
 
-nothing-requires : tie.Need-nothing-requires Inv-loop μ-loop
-nothing-requires c κs = search needs
-
 loop-holds : tie.Need-loop-holds Inv-loop μ-loop
 loop-holds c = let a = c .before .before .before .before .before .args in rw (c .nothing .ensures) (scanned-first (a .s .now) (a .n) (c .before .if2 .left) (omega arith))
-
-read-segment-requires : tie.Need-read-segment-requires Inv-loop μ-loop
-read-segment-requires c κs = omega arith
-
-enum-known-f : tie.Need-enum-known-f Inv-loop μ-loop
-enum-known-f c = search needs
-
-with-requires : tie.Need-with-requires Inv-loop μ-loop
-with-requires c κs = search needs
 
 -- the segment that was found
 found : (c : tie.After-with Inv-loop μ-loop) → Segmented (c .before .before .before .before .before .before .before .before .before .before .before .before .args .s .now) (c .before .before .before .before .before .before .loop .at) (c .before .before .f .given .0 .0)
@@ -61,12 +40,6 @@ loop-less c = let g = found c in omega (arith, g .moves, g .inside)
 loop-again : tie.Need-loop-again Inv-loop μ-loop
 loop-again c = let a = c .before .before .before .before .before .before .before .before .before .before .before .before .args in let l = c .before .before .before .before .before .before .loop in rw (c .with .ensures) (scanned-more (a .s .now) (a .n) (l .at) (l .named) _ (l .inv) (found c))
 
-enum-told : tie.Need-enum-told Inv-loop μ-loop
-enum-told c = search needs
-
-without-record-requires-3 : tie.Need-without-record-requires-3 Inv-loop μ-loop
-without-record-requires-3 c κs = search needs
-
 returns-3 : tie.Need-returns-3 Inv-loop μ-loop
 unfolding Segmenting
 returns-3 c = let a = c .before .before .before .before .before .before .before .before .before .before .before .args in let l = c .before .before .before .before .before .loop in answer-unread (c .without-record3 .result) (c .without-record3 .ensures) ∙ sym (scanned-bad (a .s .now) (a .n) (l .at) (l .named) (a .rec) (l .inv) (rw (c .before .enum-told .given .1) at (c .before .before .before .read-segment .ensures)))
@@ -78,25 +51,6 @@ returns-4 : tie.Need-returns-4 Inv-loop μ-loop
 returns-4 c = let a = c .before .before .before .before .before .before .before .before .args in let l = c .before .before .loop in c .applied .ensures ∙ scanned-last (a .s .now) (a .n) (l .at) (l .named) (a .rec) (l .inv) (omega arith)
 
 pub read-text-spec : {M : Type 1} → statement M
-read-text-spec =
-    tie.close
-    (tie.spec
-    Inv-loop
-    μ-loop
-    without-record-requires
-    returns
-    shared-slice-read-if2
-    without-record-requires-2
-    returns-2
-    nothing-requires
-    loop-holds
-    read-segment-requires
-    enum-known-f
-    with-requires
-    loop-less
-    loop-again
-    enum-told
-    without-record-requires-3
-    returns-3
-    applied-requires
-    returns-4)
+read-text-spec = tie.close (tie.spec Inv-loop μ-loop (λ c κs. search needs) returns (λ c. omega arith) (λ c κs. search needs) returns-2
+    (λ c κs. search needs) loop-holds (λ c κs. omega arith) (λ c. search needs) (λ c κs. search needs) loop-less loop-again (λ c. search needs)
+    (λ c κs. search needs) returns-3 applied-requires returns-4)

@@ -7,15 +7,9 @@ use Rattle.ortext_segments.proofs.Laws.Keys.{entry-spells, named, table
 use Rattle.ortext_segments.proofs.keys.key_name.Statement.{statement}
 use Rattle.ortext_segments.proofs.keys.key_name.Tie as tie
 
-mul-result : tie.Need-mul-result
-mul-result c = search needs
-
-array-copy-out-result : tie.Need-array-copy-out-result
-array-copy-out-result c = search needs
-
 returns : tie.Need-returns
 unfolding table named keys bytes
 returns c = entry-spells (c .before .args .k) _ (c .before .pre)
 
 pub key-name-spec : {M : Type 1} → statement M
-key-name-spec = tie.close (tie.spec mul-result array-copy-out-result returns)
+key-name-spec = tie.close (tie.spec (λ c. search needs) (λ c. search needs) returns)

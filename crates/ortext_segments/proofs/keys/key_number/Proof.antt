@@ -28,29 +28,17 @@ tested c =
 loop-holds : tie.Need-loop-holds Inv-loop μ-loop
 loop-holds c = (omega arith, omega arith)
 
-key-name-requires : tie.Need-key-name-requires Inv-loop μ-loop
-key-name-requires c κs = omega arith
-
 array-share-prefix-bytes : tie.Need-array-share-prefix-bytes Inv-loop μ-loop
 array-share-prefix-bytes c = c .before .key-name .ensures .fits
 
 slice-aggregate-same-text : tie.Need-slice-aggregate-same-text Inv-loop μ-loop
 slice-aggregate-same-text c = sym (length-take-le _ _ (c .before .before .key-name .ensures .fits))
 
-same-text-requires : tie.Need-same-text-requires Inv-loop μ-loop
-same-text-requires c κs = search needs
-
 returns : tie.Need-returns Inv-loop μ-loop
 returns c =
     let at = c .before .before .before .before .before .before in
     let s = at .before .before .args .s .now in
     omega (arith, at .loop .inv .1, number-here keys (at .loop .k) s (omega (arith, key-count)) (sym (tested (c .before)) ∙ c .if1 .taken))
-
-add-k : tie.Need-add-k Inv-loop μ-loop
-add-k c = omega arith
-
-loop-less : tie.Need-loop-less Inv-loop μ-loop
-loop-less c = omega arith
 
 loop-again : tie.Need-loop-again Inv-loop μ-loop
 loop-again c =
@@ -62,18 +50,5 @@ returns-2 : tie.Need-returns-2 Inv-loop μ-loop
 returns-2 c = omega (arith, c .before .loop .inv .1, number-end keys (c .before .loop .k) (c .before .before .before .args .s .now) (omega (arith, key-count)))
 
 pub key-number-spec : {M : Type 1} → statement M
-key-number-spec =
-    tie.close
-    (tie.spec
-    Inv-loop
-    μ-loop
-    loop-holds
-    key-name-requires
-    array-share-prefix-bytes
-    slice-aggregate-same-text
-    same-text-requires
-    returns
-    add-k
-    loop-less
-    loop-again
-    returns-2)
+key-number-spec = tie.close (tie.spec Inv-loop μ-loop loop-holds (λ c κs. omega arith) array-share-prefix-bytes slice-aggregate-same-text
+    (λ c κs. search needs) returns (λ c. omega arith) (λ c. omega arith) loop-again returns-2)

@@ -20,22 +20,10 @@ abbrev μ-loop : tie.MeasureT-loop
 loop-holds : tie.Need-loop-holds Inv-loop μ-loop
 loop-holds c = refl
 
-shared-slice-read-is-label-char : tie.Need-shared-slice-read-is-label-char Inv-loop μ-loop
-shared-slice-read-is-label-char c = omega arith
-
-is-label-char-requires : tie.Need-is-label-char-requires Inv-loop μ-loop
-is-label-char-requires c κs = search needs
-
 returns : tie.Need-returns Inv-loop μ-loop
 returns c =
     let at = c .before .before .before .before in
     omega (arith, at .loop .inv, key-here (at .before .before .args .s .now) (at .loop .i) (omega arith) (sym (c .before .is-label-char .ensures) ∙ not-true (c .before .is-label-char .result) (c .if1 .taken)))
-
-add-i : tie.Need-add-i Inv-loop μ-loop
-add-i c = omega arith
-
-loop-less : tie.Need-loop-less Inv-loop μ-loop
-loop-less c = omega arith
 
 loop-again : tie.Need-loop-again Inv-loop μ-loop
 loop-again c =
@@ -46,16 +34,5 @@ returns-2 : tie.Need-returns-2 Inv-loop μ-loop
 returns-2 c = omega (arith, c .before .loop .inv, key-end (c .before .before .before .args .s .now) (c .before .loop .i) (omega arith))
 
 pub key-end-spec : {M : Type 1} → statement M
-key-end-spec =
-    tie.close
-    (tie.spec
-    Inv-loop
-    μ-loop
-    loop-holds
-    shared-slice-read-is-label-char
-    is-label-char-requires
-    returns
-    add-i
-    loop-less
-    loop-again
-    returns-2)
+key-end-spec = tie.close (tie.spec Inv-loop μ-loop loop-holds (λ c. omega arith) (λ c κs. search needs) returns (λ c. omega arith) (λ c. omega arith)
+    loop-again returns-2)

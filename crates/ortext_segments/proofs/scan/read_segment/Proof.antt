@@ -53,9 +53,6 @@ room c h =
     let at = c .before .before .before .before in
     byte-inside (at .before .before .args .s .now) (at .key-end .result) (omega (arith, c .byte-at .ensures))
 
-key-end-requires : tie.Need-key-end-requires
-key-end-requires c κs = search needs
-
 returns : tie.Need-returns
 unfolding Segmenting
 returns c =
@@ -63,29 +60,11 @@ returns c =
     key-missing (a .s .now) (a .from) (c .before .key-end .result) (c .before .key-end .ensures)
     (take (keyRun (drop (a .from) (a .s .now))) (drop (a .from) (a .s .now))) refl (c .if1 .taken) (c .before .before .before .pre)
 
-sub-key-number : tie.Need-sub-key-number
-sub-key-number c = search needs
-
-part-key-number-start : tie.Need-part-key-number-start
-part-key-number-start c = search needs
-
 part-key-number-end : tie.Need-part-key-number-end
 part-key-number-end c = key-inside (c .before)
 
-key-number-requires : tie.Need-key-number-requires
-key-number-requires c κs = search needs
-
-byte-at-requires : tie.Need-byte-at-requires
-byte-at-requires c κs = search needs
-
-plain-key-requires : tie.Need-plain-key-requires
-plain-key-requires c κs = search needs
-
 add-with-value : tie.Need-add-with-value
 add-with-value c = omega (arith, room (c .before .before) (omega (arith, c .before .if2 .taken)))
-
-with-value-requires : tie.Need-with-value-requires
-with-value-requires c κs = search needs
 
 returns-2 : tie.Need-returns-2
 returns-2 c =
@@ -124,9 +103,6 @@ returns-4 c =
 add-with-kind : tie.Need-add-with-kind
 add-with-kind c = omega (arith, room (c .before .before .before) (omega (arith, c .before .if3 .left)))
 
-with-kind-requires : tie.Need-with-kind-requires
-with-kind-requires c κs = search needs
-
 returns-5 : tie.Need-returns-5
 returns-5 c =
     let byte = c .before .before .before .before in
@@ -138,22 +114,6 @@ returns-5 c =
     (byte-text (at .before)) (behind byte 46 (c .before .before .if3 .left)) (sym (numbered (byte .before)) ∙ c .before .if4 .left) (byte .before .before .before .if1 .left))
 
 pub read-segment-spec : {M : Type 1} → statement M
-read-segment-spec =
-    tie.close
-    (tie.spec
-    key-end-requires
-    returns
-    sub-key-number
-    part-key-number-start
-    part-key-number-end
-    key-number-requires
-    byte-at-requires
-    plain-key-requires
-    add-with-value
-    with-value-requires
-    returns-2
-    returns-3
-    returns-4
-    add-with-kind
-    with-kind-requires
-    returns-5)
+read-segment-spec = tie.close (tie.spec (λ c κs. search needs) returns (λ c. search needs) (λ c. search needs) part-key-number-end
+    (λ c κs. search needs) (λ c κs. search needs) (λ c κs. search needs) add-with-value (λ c κs. search needs) returns-2 returns-3 returns-4
+    add-with-kind (λ c κs. search needs) returns-5)

@@ -98,23 +98,5 @@ unfolding endAt
 returns-3 c = sym (c .before .loop .inv ∙ end-none (c .before .before .before .args .s .now) (c .before .loop .i) (omega arith))
 
 pub text-end-spec : {M : Type 1} → statement M
-text-end-spec =
-    tie.close
-    (tie.spec
-    Inv-loop
-    μ-loop
-    loop-holds
-    shared-slice-read-b
-    is-stop-requires
-    returns
-    add-byte-at
-    byte-at-requires
-    is-printable-requires
-    returns-2
-    add-i
-    loop-less
-    loop-again
-    add-i-2
-    loop-less-2
-    loop-again-2
-    returns-3)
+text-end-spec = tie.close (tie.spec Inv-loop μ-loop loop-holds shared-slice-read-b is-stop-requires returns add-byte-at byte-at-requires
+    is-printable-requires returns-2 add-i loop-less loop-again add-i-2 loop-less-2 loop-again-2 returns-3)

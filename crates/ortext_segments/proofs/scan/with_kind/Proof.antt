@@ -16,15 +16,6 @@ found : (c : tie.After-end) → let a = c .before .before .before .before .args 
 unfolding endAt
 found c = sym (c .before .before .text-end .ensures) ∙ ap endAt (c .end .given .1)
 
-text-end-requires : tie.Need-text-end-requires
-text-end-requires c κs = search needs
-
-enum-known-end : tie.Need-enum-known-end
-enum-known-end c = search needs
-
-enum-told : tie.Need-enum-told
-enum-told c = search needs
-
 returns : tie.Need-returns
 unfolding endAt
 returns c =
@@ -55,9 +46,6 @@ add-with-value c =
     let a = at .before .before .before .before .args in
     omega (arith, end-place (a .s .now) (a .from) (at .end .given .0 .0) (found at) .1)
 
-with-value-requires : tie.Need-with-value-requires
-with-value-requires c κs = search needs
-
 returns-3 : tie.Need-returns-3
 returns-3 c =
     let at = c .before .before .before .before in
@@ -66,16 +54,5 @@ returns-3 c =
     ∙ sym (kind-at (a .s .now) (a .from) (at .end .given .0 .0) (found at) ∙ rw (eq-eqb (getD (a .s .now) (at .end .given .0 .0) 0) 61 (c .before .if1 .left)))
 
 pub with-kind-spec : {M : Type 1} → statement M
-with-kind-spec =
-    tie.close
-    (tie.spec
-    text-end-requires
-    enum-known-end
-    enum-told
-    returns
-    shared-slice-read-if1
-    returns-2
-    sub-with-value
-    add-with-value
-    with-value-requires
-    returns-3)
+with-kind-spec = tie.close (tie.spec (λ c κs. search needs) (λ c. search needs) (λ c. search needs) returns shared-slice-read-if1 returns-2
+    sub-with-value add-with-value (λ c κs. search needs) returns-3)

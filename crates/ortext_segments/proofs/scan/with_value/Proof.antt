@@ -16,15 +16,6 @@ found : (c : tie.After-end) → let a = c .before .before .before .before .args 
 unfolding endAt
 found c = sym (c .before .before .text-end .ensures) ∙ ap endAt (c .end .given .1)
 
-text-end-requires : tie.Need-text-end-requires
-text-end-requires c κs = search needs
-
-enum-known-end : tie.Need-enum-known-end
-enum-known-end c = search needs
-
-enum-told : tie.Need-enum-told
-enum-told c = search needs
-
 returns : tie.Need-returns
 unfolding endAt
 returns c =
@@ -62,15 +53,5 @@ returns-3 c =
     sym (value-at (a .s .now) (a .from) (a .key) (a .kind) (at .end .given .0 .0) (found at) ∙ rw (eq-eqb (getD (a .s .now) (at .end .given .0 .0) 0) 47 (c .if1 .left)))
 
 pub with-value-spec : {M : Type 1} → statement M
-with-value-spec =
-    tie.close
-    (tie.spec
-    text-end-requires
-    enum-known-end
-    enum-told
-    returns
-    shared-slice-read-if1
-    returns-2
-    sub-t10
-    add-t12
-    returns-3)
+with-value-spec = tie.close (tie.spec (λ c κs. search needs) (λ c. search needs) (λ c. search needs) returns shared-slice-read-if1 returns-2 sub-t10
+    add-t12 returns-3)

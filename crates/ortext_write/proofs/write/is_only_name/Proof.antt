@@ -11,24 +11,12 @@ use borrow.Author.Needs.{needs}
 use Rattle.ortext_write.proofs.write.is_only_name.Statement.{statement}
 use Rattle.ortext_write.proofs.write.is_only_name.Tie as tie
 
-is-own-empty-requires : tie.Need-is-own-empty-requires
-is-own-empty-requires c κs = search needs
-
 returns : tie.Need-returns
 returns c = sym (only-own (remaining (c .before .before .args .from) (view (c .before .before .args .rec))) (failed (c .before .is-own-empty .ensures) (c .if1 .taken)))
-
-units-out-requires : tie.Need-units-out-requires
-units-out-requires c κs = search needs
-
-size-requires : tie.Need-size-requires
-size-requires c κs = search needs
 
 returns-2 : tie.Need-returns-2
 unfolding view
 returns-2 c = sym (only-units (remaining (c .before .before .before .before .before .before .args .from) (view (c .before .before .before .before .before .before .args .rec))) (omega (arith, units-count (c .before .before .before .before .before .before .args .from) (view (c .before .before .before .before .before .before .args .rec)))))
-
-size-requires-2 : tie.Need-size-requires-2
-size-requires-2 c κs = search needs
 
 returns-3 : tie.Need-returns-3
 unfolding remaining view
@@ -37,13 +25,5 @@ returns-3 c =
     ∙ only-rest (remaining (c .before .before .before .before .before .before .before .before .args .from) (view (c .before .before .before .before .before .before .before .before .args .rec))) (passed (c .before .before .before .before .before .before .before .is-own-empty .ensures) (c .before .before .before .before .before .before .if1 .left)) (omega (arith, units-count (c .before .before .before .before .before .before .before .before .args .from) (view (c .before .before .before .before .before .before .before .before .args .rec))))
 
 pub is-only-name-spec : {M : Type 1} → statement M
-is-only-name-spec =
-    tie.close
-    (tie.spec
-    is-own-empty-requires
-    returns
-    units-out-requires
-    size-requires
-    returns-2
-    size-requires-2
+is-only-name-spec = tie.close (tie.spec (λ c κs. search needs) returns (λ c κs. search needs) (λ c κs. search needs) returns-2 (λ c κs. search needs)
     returns-3)

@@ -23,24 +23,12 @@ abbrev μ-loop : tie.MeasureT-loop
 loop-holds : tie.Need-loop-holds Inv-loop μ-loop
 loop-holds c = (omega arith, own-start (c .args .from) (view (c .args .rec)))
 
-single-requires : tie.Need-single-requires Inv-loop μ-loop
-single-requires c κs = omega arith
-
-size-requires : tie.Need-size-requires Inv-loop μ-loop
-size-requires c κs = search needs
-
 returns : tie.Need-returns Inv-loop μ-loop
 returns c =
     let l = c .before .before .before .before .loop in
     let a = c .before .before .before .before .before .args in
     sym (l .inv .1 ∙ own-step (a .from) (view (a .rec)) (l .k) (omega arith) (omega arith)
     ∙ rw (some-length (singleOf (view (a .rec)) (l .k)) (omega (arith, ap length (c .before .before .single .ensures)))))
-
-add-k : tie.Need-add-k Inv-loop μ-loop
-add-k c = omega arith
-
-loop-less : tie.Need-loop-less Inv-loop μ-loop
-loop-less c = omega arith
 
 loop-again : tie.Need-loop-again Inv-loop μ-loop
 unfolding nonEmpty
@@ -54,16 +42,5 @@ returns-2 : tie.Need-returns-2 Inv-loop μ-loop
 returns-2 c = sym (c .before .loop .inv .1 ∙ own-end (c .before .before .args .from) (view (c .before .before .args .rec)) (c .before .loop .k) (omega arith))
 
 pub is-own-empty-spec : {M : Type 1} → statement M
-is-own-empty-spec =
-    tie.close
-    (tie.spec
-    Inv-loop
-    μ-loop
-    loop-holds
-    single-requires
-    size-requires
-    returns
-    add-k
-    loop-less
-    loop-again
-    returns-2)
+is-own-empty-spec = tie.close (tie.spec Inv-loop μ-loop loop-holds (λ c κs. omega arith) (λ c κs. search needs) returns (λ c. omega arith)
+    (λ c. omega arith) loop-again returns-2)

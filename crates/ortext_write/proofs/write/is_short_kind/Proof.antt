@@ -10,17 +10,11 @@ use borrow.Author.Needs.{needs}
 use Rattle.ortext_write.proofs.write.is_short_kind.Statement.{statement}
 use Rattle.ortext_write.proofs.write.is_short_kind.Tie as tie
 
-key-name-requires : tie.Need-key-name-requires
-key-name-requires c κs = search needs
-
 array-share-prefix-bytes : tie.Need-array-share-prefix-bytes
 array-share-prefix-bytes c = c .before .key-name .ensures .fits
 
 slice-aggregate-same-text : tie.Need-slice-aggregate-same-text
 slice-aggregate-same-text c = sym (length-take-le _ _ (c .before .before .key-name .ensures .fits))
-
-same-text-requires : tie.Need-same-text-requires
-same-text-requires c κs = search needs
 
 returns : tie.Need-returns
 returns c =
@@ -28,11 +22,4 @@ returns c =
     c .same-text .ensures ∙ ap (λ (t : List ℕ). sameText t kind) (c .before .before .before .key-name .ensures .text) ∙ sym (short-test kind)
 
 pub is-short-kind-spec : {M : Type 1} → statement M
-is-short-kind-spec =
-    tie.close
-    (tie.spec
-    key-name-requires
-    array-share-prefix-bytes
-    slice-aggregate-same-text
-    same-text-requires
-    returns)
+is-short-kind-spec = tie.close (tie.spec (λ c κs. search needs) array-share-prefix-bytes slice-aggregate-same-text (λ c κs. search needs) returns)

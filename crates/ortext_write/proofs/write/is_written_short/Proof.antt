@@ -52,16 +52,5 @@ returns-3 c =
     ∙ sym (writes-rest (remaining (c .before .before .before .before .before .before .before .before .before .args .from) (view (c .before .before .before .before .before .before .before .before .before .args .rec))) (passed (c .before .before .before .before .before .before .before .before .is-only-name .ensures) (c .before .before .before .before .before .before .before .if1 .left)) (single-left (a .from) (view (a .rec)) GQ (omega arith) ∙ sym (c .before .before .before .before .before .before .single .ensures) ∙ no-length (valueView (c .before .before .before .before .before .before .single .result)) (omega arith)))
 
 pub is-written-short-spec : {M : Type 1} → statement M
-is-written-short-spec =
-    tie.close
-    (tie.spec
-    is-only-name-requires
-    returns
-    single-requires
-    size-requires
-    returns-2
-    single-requires-2
-    single-requires-3
-    single-requires-4
-    is-short-name-requires
-    returns-3)
+is-written-short-spec = tie.close (tie.spec is-only-name-requires returns single-requires size-requires returns-2 single-requires-2 single-requires-3
+    single-requires-4 is-short-name-requires returns-3)

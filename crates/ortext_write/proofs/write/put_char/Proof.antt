@@ -43,17 +43,5 @@ returns-2 : tie.Need-returns-2
 returns-2 c = rw (quoted-other (c .before .before .before .args .b) (sym (c .before .is-stop .ensures) ∙ c .if1 .left)) (record { moved = refl; holds = refl })
 
 pub put-char-spec : {M : Type 1} → statement M
-put-char-spec =
-    tie.close
-    (tie.spec
-    is-stop-requires
-    slice-write-dst
-    add-dst
-    slice-write-dst-2
-    add-result
-    same-length
-    returns
-    slice-write-dst-3
-    add-result-2
-    same-length-2
-    returns-2)
+put-char-spec = tie.close (tie.spec is-stop-requires slice-write-dst add-dst slice-write-dst-2 add-result same-length returns slice-write-dst-3
+    add-result-2 same-length-2 returns-2)

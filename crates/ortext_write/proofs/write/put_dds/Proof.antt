@@ -21,14 +21,8 @@ Inv-loop dst₀ at dds n next₀ i₀ dst next i = (i ≤ n) × Left dst₀ at (
 abbrev μ-loop : tie.MeasureT-loop
 μ-loop dst₀ at dds n next₀ i₀ dst next i = n - i
 
-size-requires : tie.Need-size-requires Inv-loop μ-loop
-size-requires c κs = search needs
-
 loop-holds : tie.Need-loop-holds Inv-loop μ-loop
 loop-holds c = (omega arith, left-all (joined-map keys ddSegment (ddsView (c .before .before .args .dds))))
-
-item-requires : tie.Need-item-requires Inv-loop μ-loop
-item-requires c κs = search needs
 
 -- the DD that a turn writes, and the others
 step : (c : tie.After-item Inv-loop μ-loop) → let l = c .before .before .before .loop in
@@ -45,12 +39,6 @@ put-item-requires c κs =
     let d = ddsView (c .before .before .before .before .before .before .args .dds) in
     left-room (ddText (ddView (c .item .result))) (flat ddText (drop (l .i + 1) d)) (l .inv .1) (step c) (c .before .before .before .before .before .before .pre)
 
-add-i : tie.Need-add-i Inv-loop μ-loop
-add-i c = omega arith
-
-loop-less : tie.Need-loop-less Inv-loop μ-loop
-loop-less c = omega arith
-
 loop-again : tie.Need-loop-again Inv-loop μ-loop
 loop-again c = (omega arith, left-more (c .before .before .before .before .before .before .loop .inv .1) (step (c .before .before .before)) (c .before .before .put-item .ensures))
 
@@ -61,17 +49,5 @@ returns : tie.Need-returns Inv-loop μ-loop
 returns c = left-none (c .before .loop .inv .1) (flat-end ddText (ddsView (c .before .before .before .before .args .dds)) (c .before .loop .i) (omega arith))
 
 pub put-dds-spec : {M : Type 1} → statement M
-put-dds-spec =
-    tie.close
-    (tie.spec
-    Inv-loop
-    μ-loop
-    size-requires
-    loop-holds
-    item-requires
-    put-item-requires
-    add-i
-    loop-less
-    loop-again
-    same-length
-    returns)
+put-dds-spec = tie.close (tie.spec Inv-loop μ-loop (λ c κs. search needs) loop-holds (λ c κs. search needs) put-item-requires (λ c. omega arith)
+    (λ c. omega arith) loop-again same-length returns)

@@ -6,12 +6,6 @@ use borrow.Author.Needs.{needs}
 use Rattle.ortext_write.proofs.write.put_item.Statement.{statement}
 use Rattle.ortext_write.proofs.write.put_item.Tie as tie
 
-size-requires : tie.Need-size-requires
-size-requires c κs = search needs
-
-size-requires-2 : tie.Need-size-requires-2
-size-requires-2 c κs = search needs
-
 array-share-prefix-kind-bytes : tie.Need-array-share-prefix-kind-bytes
 unfolding kindView
 array-share-prefix-kind-bytes c = part-within (c .before .before .before .before .before .before .before .before .args .item .kind .len) (c .before .before .before .before .before .before .before .before .args .item .kind .bytes) (c .before .before .before .before .before .size .result) (c .before .before .before .before .before .size .ensures)
@@ -34,9 +28,6 @@ put-dd-requires c κs =
     rw (part-is (c .before .before .before .before .before .before .before .before .before .before .args .item .kind .len) (c .before .before .before .before .before .before .before .before .before .before .args .item .kind .bytes) (c .before .before .before .before .before .before .before .size .result) (c .before .before .before .before .before .before .before .size .ensures), part-is (c .before .before .before .before .before .before .before .before .before .before .args .item .value .len) (c .before .before .before .before .before .before .before .before .before .before .args .item .value .bytes) (c .before .before .before .before .size2 .result) (c .before .before .before .before .size2 .ensures))
     (c .before .before .before .before .before .before .before .before .before .before .pre)
 
-same-length : tie.Need-same-length
-same-length c = search needs
-
 returns : tie.Need-returns
 unfolding ddView kindView ddValueView
 returns c =
@@ -44,15 +35,5 @@ returns c =
     at (c .before .before .put-dd .ensures)
 
 pub put-item-spec : {M : Type 1} → statement M
-put-item-spec =
-    tie.close
-    (tie.spec
-    size-requires
-    size-requires-2
-    array-share-prefix-kind-bytes
-    slice-aggregate-put-dd
-    array-share-prefix-bytes
-    slice-aggregate-put-dd-2
-    put-dd-requires
-    same-length
-    returns)
+put-item-spec = tie.close (tie.spec (λ c κs. search needs) (λ c κs. search needs) array-share-prefix-kind-bytes slice-aggregate-put-dd
+    array-share-prefix-bytes slice-aggregate-put-dd-2 put-dd-requires (λ c. search needs) returns)

@@ -17,29 +17,17 @@ put-dds-requires : tie.Need-put-dds-requires
 unfolding view
 put-dds-requires c κs = rw (dds-left (c .before .before .before .before .args .from) (view (c .before .before .before .before .args .rec)) (c .before .before .before .before .args .k) (c .before .before .if1 .taken)) at (c .before .before .before .before .pre .1)
 
-same-length : tie.Need-same-length
-same-length c = search needs
-
 returns : tie.Need-returns
 unfolding view
 returns c = rw (dds-left (c .before .before .before .before .before .before .before .args .from) (view (c .before .before .before .before .before .before .before .args .rec)) (c .before .before .before .before .before .before .before .args .k) (c .before .before .before .before .before .if1 .taken)) (c .before .before .put-dds .ensures)
-
-units-out-requires : tie.Need-units-out-requires
-units-out-requires c κs = search needs
 
 put-units-requires : tie.Need-put-units-requires
 unfolding view
 put-units-requires c κs = rw (c .units-out .ensures) (rw (units-left (c .before .before .before .before .before .before .args .from) (view (c .before .before .before .before .before .before .args .rec)) (c .before .before .before .before .before .before .args .k) (c .before .before .before .if2 .taken)) at (c .before .before .before .before .before .before .pre .1))
 
-same-length-2 : tie.Need-same-length-2
-same-length-2 c = search needs
-
 returns-2 : tie.Need-returns-2
 unfolding view
 returns-2 c = rw (units-left (c .before .before .before .before .before .before .before .before .before .args .from) (view (c .before .before .before .before .before .before .before .before .before .args .rec)) (c .before .before .before .before .before .before .before .before .before .args .k) (c .before .before .before .before .before .before .if2 .taken)) (rw (c .before .before .before .units-out .ensures) at (c .before .before .put-units .ensures))
-
-is-out-requires : tie.Need-is-out-requires
-is-out-requires c κs = search needs
 
 returns-3 : tie.Need-returns-3
 returns-3 c =
@@ -50,25 +38,9 @@ returns-3 c =
 put-single-requires : tie.Need-put-single-requires
 put-single-requires c κs = (omega arith, rw (segments-left (c .before .before .before .before .before .before .args .from) (view (c .before .before .before .before .before .before .args .rec)) (c .before .before .before .before .before .before .args .k) (ltb-false (c .before .before .before .before .before .before .args .k) (min (c .before .before .before .before .before .before .args .from) 4) (sym (c .before .before .is-out .ensures) ∙ c .before .if3 .left)) (omega arith)) at (c .before .before .before .before .before .before .pre .1))
 
-same-length-3 : tie.Need-same-length-3
-same-length-3 c = search needs
-
 returns-4 : tie.Need-returns-4
 returns-4 c = rw (segments-left (c .before .before .before .before .before .before .before .before .before .args .from) (view (c .before .before .before .before .before .before .before .before .before .args .rec)) (c .before .before .before .before .before .before .before .before .before .args .k) (ltb-false (c .before .before .before .before .before .before .before .before .before .args .k) (min (c .before .before .before .before .before .before .before .before .before .args .from) 4) (sym (c .before .before .before .before .before .is-out .ensures) ∙ c .before .before .before .before .if3 .left)) (omega arith)) (c .before .before .put-single .ensures)
 
 pub put-key-spec : {M : Type 1} → statement M
-put-key-spec =
-    tie.close
-    (tie.spec
-    put-dds-requires
-    same-length
-    returns
-    units-out-requires
-    put-units-requires
-    same-length-2
-    returns-2
-    is-out-requires
-    returns-3
-    put-single-requires
-    same-length-3
-    returns-4)
+put-key-spec = tie.close (tie.spec put-dds-requires (λ c. search needs) returns (λ c κs. search needs) put-units-requires (λ c. search needs)
+    returns-2 (λ c κs. search needs) returns-3 put-single-requires (λ c. search needs) returns-4)

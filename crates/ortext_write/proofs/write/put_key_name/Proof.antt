@@ -10,9 +10,6 @@ use borrow.Author.Needs.{needs}
 use Rattle.ortext_write.proofs.write.put_key_name.Statement.{statement}
 use Rattle.ortext_write.proofs.write.put_key_name.Tie as tie
 
-key-name-requires : tie.Need-key-name-requires
-key-name-requires c κs = search needs
-
 array-share-prefix-bytes : tie.Need-array-share-prefix-bytes
 array-share-prefix-bytes c = c .before .before .key-name .ensures .fits
 
@@ -24,21 +21,10 @@ put-requires c κs =
     let s = c .before .before .before .before .before in
     subst (λ (t : List ℕ). s .args .at + length t ≤ length (s .args .dst .now)) (sym (c .before .before .before .key-name .ensures .text)) (s .pre .1)
 
-same-length : tie.Need-same-length
-same-length c = search needs
-
 returns : tie.Need-returns
 returns c =
     let s = c .before .before .before .before .before .before .before .before in
     subst (λ (t : List ℕ). Wrote (s .args .dst .now) (s .args .at) t (c .before .before .put .result) (c .before .before .put .last .0)) (c .before .before .before .before .before .before .key-name .ensures .text) (c .before .before .put .ensures)
 
 pub put-key-name-spec : {M : Type 1} → statement M
-put-key-name-spec =
-    tie.close
-    (tie.spec
-    key-name-requires
-    array-share-prefix-bytes
-    slice-aggregate-put
-    put-requires
-    same-length
-    returns)
+put-key-name-spec = tie.close (tie.spec (λ c κs. search needs) array-share-prefix-bytes slice-aggregate-put put-requires (λ c. search needs) returns)

@@ -25,12 +25,6 @@ abbrev μ-loop : tie.MeasureT-loop
 loop-holds : tie.Need-loop-holds Inv-loop μ-loop
 loop-holds c = (omega arith, left-all (joined-in keys (remaining (c .before .args .from) (view (c .before .args .rec))) order))
 
-mul-put-key : tie.Need-mul-put-key Inv-loop μ-loop
-mul-put-key c = omega arith
-
-array-read-put-key : tie.Need-array-read-put-key Inv-loop μ-loop
-array-read-put-key c = omega arith
-
 put-key-requires : tie.Need-put-key-requires Inv-loop μ-loop
 unfolding all
 put-key-requires c κs =
@@ -38,12 +32,6 @@ put-key-requires c κs =
     let s = c .before .before .before .before in
     let f = keyText (remaining (s .args .from) (view (s .args .rec))) in
     (ltb-true (getD order (l .i) 0) PN-KEY (all-at (λ k. ltb k PN-KEY) order (l .i) 0 refl (omega arith)), left-room (f (getD order (l .i) 0)) (flat f (drop (l .i + 1) order)) (l .inv .1) (flat-step f order (l .i) 0 (omega arith)) (s .pre))
-
-add-i : tie.Need-add-i Inv-loop μ-loop
-add-i c = omega arith
-
-loop-less : tie.Need-loop-less Inv-loop μ-loop
-loop-less c = omega arith
 
 loop-again : tie.Need-loop-again Inv-loop μ-loop
 loop-again c =
@@ -60,17 +48,5 @@ returns c =
     left-none (c .before .loop .inv .1) (flat-end (keyText (remaining (a .from) (view (a .rec)))) order (c .before .loop .i) (omega arith))
 
 pub put-keys-spec : {M : Type 1} → statement M
-put-keys-spec =
-    tie.close
-    (tie.spec
-    Inv-loop
-    μ-loop
-    loop-holds
-    mul-put-key
-    array-read-put-key
-    put-key-requires
-    add-i
-    loop-less
-    loop-again
-    same-length
-    returns)
+put-keys-spec = tie.close (tie.spec Inv-loop μ-loop loop-holds (λ c. omega arith) (λ c. omega arith) put-key-requires (λ c. omega arith)
+    (λ c. omega arith) loop-again same-length returns)

@@ -13,9 +13,6 @@ use Rattle.ortext_write.proofs.write.put_long_dd.Tie as tie
 slice-write-dst : tie.Need-slice-write-dst
 slice-write-dst c = omega (arith, length-dd, length-long (c .before .before .before .args .kind .now) (c .before .before .before .args .value .now), c .before .before .before .pre)
 
-add-put-key-name : tie.Need-add-put-key-name
-add-put-key-name c = search needs
-
 put-key-name-requires : tie.Need-put-key-name-requires
 put-key-name-requires c κs = (lit< tt, rw length-set (omega (arith, length-dd, length-long (c .before .before .before .before .args .kind .now) (c .before .before .before .before .args .value .now), c .before .before .before .before .pre)))
 
@@ -48,17 +45,5 @@ same-length : tie.Need-same-length
 same-length c = wrote-length (returns c)
 
 pub put-long-dd-spec : {M : Type 1} → statement M
-put-long-dd-spec =
-    tie.close
-    (tie.spec
-    slice-write-dst
-    add-put-key-name
-    put-key-name-requires
-    slice-write-dst-2
-    add-put-quoted
-    put-quoted-requires
-    slice-write-dst-3
-    add-put-quoted-2
-    put-quoted-requires-2
-    same-length
-    returns)
+put-long-dd-spec = tie.close (tie.spec slice-write-dst (λ c. search needs) put-key-name-requires slice-write-dst-2 add-put-quoted put-quoted-requires
+    slice-write-dst-3 add-put-quoted-2 put-quoted-requires-2 same-length returns)

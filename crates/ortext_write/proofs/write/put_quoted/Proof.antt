@@ -18,20 +18,11 @@ abbrev μ-loop : tie.MeasureT-loop
 loop-holds : tie.Need-loop-holds Inv-loop μ-loop
 loop-holds c = (omega arith, left-all (quoted-flat (c .before .before .args .text .now)))
 
-shared-slice-read-put-char : tie.Need-shared-slice-read-put-char Inv-loop μ-loop
-shared-slice-read-put-char c = omega arith
-
 put-char-requires : tie.Need-put-char-requires Inv-loop μ-loop
 put-char-requires c κs =
     let l = c .before .before .before .loop in
     let t = c .before .before .before .before .before .before .args .text .now in
     left-room (quotedChar (getD t (l .i) 0)) (flat quotedChar (drop (l .i + 1) t)) (l .inv .1) (flat-step quotedChar t (l .i) 0 (omega arith)) (c .before .before .before .before .before .before .pre)
-
-add-i : tie.Need-add-i Inv-loop μ-loop
-add-i c = omega arith
-
-loop-less : tie.Need-loop-less Inv-loop μ-loop
-loop-less c = omega arith
 
 loop-again : tie.Need-loop-again Inv-loop μ-loop
 loop-again c =
@@ -46,16 +37,5 @@ returns : tie.Need-returns Inv-loop μ-loop
 returns c = left-none (c .before .loop .inv .1) (flat-end quotedChar (c .before .before .before .before .args .text .now) (c .before .loop .i) (omega arith))
 
 pub put-quoted-spec : {M : Type 1} → statement M
-put-quoted-spec =
-    tie.close
-    (tie.spec
-    Inv-loop
-    μ-loop
-    loop-holds
-    shared-slice-read-put-char
-    put-char-requires
-    add-i
-    loop-less
-    loop-again
-    same-length
-    returns)
+put-quoted-spec = tie.close (tie.spec Inv-loop μ-loop loop-holds (λ c. omega arith) put-char-requires (λ c. omega arith) (λ c. omega arith) loop-again
+    same-length returns)

@@ -14,9 +14,6 @@ use Rattle.ortext_write.proofs.write.put_segment.Tie as tie
 slice-write-dst : tie.Need-slice-write-dst
 slice-write-dst c = omega (arith, length-key-value (getD keys (c .before .before .args .k) []) (c .before .before .args .value .now), c .before .before .pre .1)
 
-add-put-key-name : tie.Need-add-put-key-name
-add-put-key-name c = search needs
-
 put-key-name-requires : tie.Need-put-key-name-requires
 put-key-name-requires c κs = (c .before .before .before .pre .0, rw length-set (omega (arith, length-key-value (getD keys (c .before .before .before .args .k) []) (c .before .before .before .args .value .now), c .before .before .before .pre .1)))
 
@@ -37,14 +34,5 @@ same-length : tie.Need-same-length
 same-length c = wrote-length (returns c)
 
 pub put-segment-spec : {M : Type 1} → statement M
-put-segment-spec =
-    tie.close
-    (tie.spec
-    slice-write-dst
-    add-put-key-name
-    put-key-name-requires
-    slice-write-dst-2
-    add-put-quoted
-    put-quoted-requires
-    same-length
-    returns)
+put-segment-spec = tie.close (tie.spec slice-write-dst (λ c. search needs) put-key-name-requires slice-write-dst-2 add-put-quoted put-quoted-requires
+    same-length returns)

@@ -7,15 +7,6 @@ use borrow.Author.Needs.{needs}
 use Rattle.ortext_write.proofs.write.put_short.Statement.{statement}
 use Rattle.ortext_write.proofs.write.put_short.Tie as tie
 
-size-requires : tie.Need-size-requires
-size-requires c κs = search needs
-
-size-requires-2 : tie.Need-size-requires-2
-size-requires-2 c κs = search needs
-
-size-requires-3 : tie.Need-size-requires-3
-size-requires-3 c κs = search needs
-
 array-share-prefix-given-bytes : tie.Need-array-share-prefix-given-bytes
 unfolding valueView
 array-share-prefix-given-bytes c = part-within (c .before .before .before .before .before .before .before .before .args .given .len) (c .before .before .before .before .before .before .before .before .args .given .bytes) (c .before .before .before .before .before .before .size .result) (c .before .before .before .before .before .before .size .ensures)
@@ -46,9 +37,6 @@ put-name-requires c κs =
     rw (part-is (c .before .before .before .before .before .before .before .before .before .before .before .args .given .len) (c .before .before .before .before .before .before .before .before .before .before .before .args .given .bytes) (c .before .before .before .before .before .before .before .before .before .size .result) (c .before .before .before .before .before .before .before .before .before .size .ensures), part-is (c .before .before .before .before .before .before .before .before .before .before .before .args .initials .len) (c .before .before .before .before .before .before .before .before .before .before .before .args .initials .bytes) (c .before .before .before .before .before .before .before .before .size2 .result) (c .before .before .before .before .before .before .before .before .size2 .ensures), part-is (c .before .before .before .before .before .before .before .before .before .before .before .args .surname .len) (c .before .before .before .before .before .before .before .before .before .before .before .args .surname .bytes) (c .before .before .before .before .before .before .before .size3 .result) (c .before .before .before .before .before .before .before .size3 .ensures))
     (omega (arith, c .before .before .before .before .before .before .before .before .before .before .before .pre))
 
-same-length : tie.Need-same-length
-same-length c = search needs
-
 returns : tie.Need-returns
 unfolding valueView
 returns c =
@@ -56,18 +44,6 @@ returns c =
     at (c .before .before .put-name .ensures)
 
 pub put-short-spec : {M : Type 1} → statement M
-put-short-spec =
-    tie.close
-    (tie.spec
-    size-requires
-    size-requires-2
-    size-requires-3
-    array-share-prefix-given-bytes
-    slice-aggregate-put-name
-    array-share-prefix-initials-bytes
-    slice-aggregate-put-name-2
-    array-share-prefix-surname-bytes
-    slice-aggregate-put-name-3
-    put-name-requires
-    same-length
-    returns)
+put-short-spec = tie.close (tie.spec (λ c κs. search needs) (λ c κs. search needs) (λ c κs. search needs) array-share-prefix-given-bytes
+    slice-aggregate-put-name array-share-prefix-initials-bytes slice-aggregate-put-name-2 array-share-prefix-surname-bytes slice-aggregate-put-name-3
+    put-name-requires (λ c. search needs) returns)

@@ -12,12 +12,6 @@ use borrow.Author.Needs.{needs}
 use Rattle.ortext_write.proofs.write.put_single.Statement.{statement}
 use Rattle.ortext_write.proofs.write.put_single.Tie as tie
 
-single-requires : tie.Need-single-requires
-single-requires c κs = search needs
-
-size-requires : tie.Need-size-requires
-size-requires c κs = search needs
-
 returns : tie.Need-returns
 returns c =
     let s = c .before .before .before .before in
@@ -37,9 +31,6 @@ put-segment-requires c κs =
     let s = c .before .before .before .before .before .before .before in
     (omega arith, rw (part-is (c .before .before .before .before .before .single .result .len) (c .before .before .before .before .before .single .result .bytes) (c .before .before .before .before .size .result) (c .before .before .before .before .size .ensures) ∙ c .before .before .before .before .before .single .ensures) (rw (single-some (view (s .args .rec)) (s .args .k) (s .pre .0) (omega (arith, ap length (c .before .before .before .before .before .single .ensures), c .before .before .before .before .size .ensures))) at (s .pre .1)))
 
-same-length : tie.Need-same-length
-same-length c = search needs
-
 returns-2 : tie.Need-returns-2
 unfolding valueView
 returns-2 c =
@@ -48,14 +39,5 @@ returns-2 c =
     (rw (part-is (c .before .before .before .before .before .before .before .before .single .result .len) (c .before .before .before .before .before .before .before .before .single .result .bytes) (c .before .before .before .before .before .before .before .size .result) (c .before .before .before .before .before .before .before .size .ensures) ∙ c .before .before .before .before .before .before .before .before .single .ensures) at (c .before .before .put-segment .ensures))
 
 pub put-single-spec : {M : Type 1} → statement M
-put-single-spec =
-    tie.close
-    (tie.spec
-    single-requires
-    size-requires
-    returns
-    array-share-prefix-bytes
-    slice-aggregate-put-segment
-    put-segment-requires
-    same-length
-    returns-2)
+put-single-spec = tie.close (tie.spec (λ c κs. search needs) (λ c κs. search needs) returns array-share-prefix-bytes slice-aggregate-put-segment
+    put-segment-requires (λ c. search needs) returns-2)

@@ -32,12 +32,4 @@ unfolding unitView
 returns c = rw (plain-text 8 (unitView (c .before .before .before .before .before .before .before .before .args .unit)) (λ q. omega arith)) (rw (part-is (c .before .before .before .before .before .before .before .before .args .unit .len) (c .before .before .before .before .before .before .before .before .args .unit .bytes) (c .before .before .before .before .before .before .size .result) (c .before .before .before .before .before .before .size .ensures)) at (c .before .before .put-segment .ensures))
 
 pub put-unit-spec : {M : Type 1} → statement M
-put-unit-spec =
-    tie.close
-    (tie.spec
-    size-requires
-    array-share-prefix-bytes
-    slice-aggregate-put-segment
-    put-segment-requires
-    same-length
-    returns)
+put-unit-spec = tie.close (tie.spec size-requires array-share-prefix-bytes slice-aggregate-put-segment put-segment-requires same-length returns)

@@ -67,17 +67,5 @@ returns : tie.Need-returns Inv-loop μ-loop
 returns c = left-none (c .before .loop .inv .1) (flat-back-end unitText (c .before .before .before .before .args .from) (unitsView (c .before .before .before .before .args .units)) (c .before .loop .i) (omega arith))
 
 pub put-units-spec : {M : Type 1} → statement M
-put-units-spec =
-    tie.close
-    (tie.spec
-    Inv-loop
-    μ-loop
-    size-requires
-    loop-holds
-    sub-i
-    name-requires
-    put-unit-requires
-    loop-less
-    loop-again
-    same-length
+put-units-spec = tie.close (tie.spec Inv-loop μ-loop size-requires loop-holds sub-i name-requires put-unit-requires loop-less loop-again same-length
     returns)

@@ -11,23 +11,8 @@ use borrow.Author.Needs.{needs}
 use Rattle.ortext_write.proofs.write.write_local.Statement.{statement}
 use Rattle.ortext_write.proofs.write.write_local.Tie as tie
 
-is-written-short-requires : tie.Need-is-written-short-requires
-is-written-short-requires c κs = search needs
-
-single-requires : tie.Need-single-requires
-single-requires c κs = search needs
-
-single-requires-2 : tie.Need-single-requires-2
-single-requires-2 c κs = search needs
-
-single-requires-3 : tie.Need-single-requires-3
-single-requires-3 c κs = search needs
-
 put-short-requires : tie.Need-put-short-requires
 put-short-requires c κs = omega (arith, ap (λ n. length (nameText n)) (name-left (c .before .before .before .before .before .before .before .args .from) (view (c .before .before .before .before .before .before .before .args .rec)) (valueView (c .before .before .single .result)) (valueView (c .before .single2 .result)) (valueView (c .single3 .result)) (c .before .before .single .ensures) (c .before .single2 .ensures) (c .single3 .ensures)), ap length (local-short (remaining (c .before .before .before .before .before .before .before .args .from) (view (c .before .before .before .before .before .before .before .args .rec))) (sym (c .before .before .before .before .before .is-written-short .ensures) ∙ c .before .before .before .before .if1 .taken)), c .before .before .before .before .before .before .before .pre)
-
-same-length : tie.Need-same-length
-same-length c = search needs
 
 returns : tie.Need-returns
 returns c = rw (local-short (remaining (c .before .before .before .before .before .before .before .before .before .before .args .from) (view (c .before .before .before .before .before .before .before .before .before .before .args .rec))) (sym (c .before .before .before .before .before .before .before .before .is-written-short .ensures) ∙ c .before .before .before .before .before .before .before .if1 .taken), sym (name-left (c .before .before .before .before .before .before .before .before .before .before .args .from) (view (c .before .before .before .before .before .before .before .before .before .before .args .rec)) (valueView (c .before .before .before .before .before .single .result)) (valueView (c .before .before .before .before .single2 .result)) (valueView (c .before .before .before .single3 .result)) (c .before .before .before .before .before .single .ensures) (c .before .before .before .before .single2 .ensures) (c .before .before .before .single3 .ensures))) (c .before .before .put-short .ensures)
@@ -35,23 +20,9 @@ returns c = rw (local-short (remaining (c .before .before .before .before .befor
 write-text-requires : tie.Need-write-text-requires
 write-text-requires c κs = omega (arith, ap length (local-long (remaining (c .before .before .before .before .args .from) (view (c .before .before .before .before .args .rec))) (sym (c .before .before .is-written-short .ensures) ∙ c .before .if1 .left)), c .before .before .before .before .pre)
 
-same-length-2 : tie.Need-same-length-2
-same-length-2 c = search needs
-
 returns-2 : tie.Need-returns-2
 returns-2 c = rw (local-long (remaining (c .before .before .before .before .before .before .before .args .from) (view (c .before .before .before .before .before .before .before .args .rec))) (sym (c .before .before .before .before .before .is-written-short .ensures) ∙ c .before .before .before .before .if1 .left)) (c .before .before .write-text .ensures)
 
 pub write-local-spec : {M : Type 1} → statement M
-write-local-spec =
-    tie.close
-    (tie.spec
-    is-written-short-requires
-    single-requires
-    single-requires-2
-    single-requires-3
-    put-short-requires
-    same-length
-    returns
-    write-text-requires
-    same-length-2
-    returns-2)
+write-local-spec = tie.close (tie.spec (λ c κs. search needs) (λ c κs. search needs) (λ c κs. search needs) (λ c κs. search needs) put-short-requires
+    (λ c. search needs) returns write-text-requires (λ c. search needs) returns-2)

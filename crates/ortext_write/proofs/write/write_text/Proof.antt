@@ -18,13 +18,10 @@ slice-write-dst c = omega (arith, length-text (remaining (c .before .before .bef
 add-result : tie.Need-add-result
 add-result c = omega (arith, length-text (remaining (c .before .before .before .before .before .args .from) (view (c .before .before .before .before .before .args .rec))), c .before .before .before .before .before .pre, c .before .before .put-keys .ensures .moved)
 
-same-length : tie.Need-same-length
-same-length c = search needs
-
 returns : tie.Need-returns
 unfolding recordText segmentsText
 returns c = wrote-then (c .before .before .put-keys .ensures) (wrote-one 47)
 
 pub write-text-spec : {M : Type 1} → statement M
 write-text-spec =
-    tie.close (tie.spec put-keys-requires slice-write-dst add-result same-length returns)
+    tie.close (tie.spec put-keys-requires slice-write-dst add-result (λ c. search needs) returns)

@@ -12,21 +12,6 @@ Inv-loop rec k₀ k = k ≤ singles
 abbrev μ-loop : tie.MeasureT-loop
 μ-loop rec k₀ k = singles - k
 
-loop-holds : tie.Need-loop-holds Inv-loop μ-loop
-loop-holds c = search needs
-
-single-requires : tie.Need-single-requires Inv-loop μ-loop
-single-requires c κs = search needs
-
-print-value-requires : tie.Need-print-value-requires Inv-loop μ-loop
-print-value-requires c κs = search needs
-
-add-k : tie.Need-add-k Inv-loop μ-loop
-add-k c = search needs
-
-loop-less : tie.Need-loop-less Inv-loop μ-loop
-loop-less c = search needs
-
 loop-again : tie.Need-loop-again Inv-loop μ-loop
 loop-again c = search needs
 
@@ -34,15 +19,5 @@ returns : tie.Need-returns Inv-loop μ-loop
 returns c = search needs
 
 pub print-singles-spec : {M : Type 1} → statement M
-print-singles-spec =
-    tie.close
-    (tie.spec
-    Inv-loop
-    μ-loop
-    loop-holds
-    single-requires
-    print-value-requires
-    add-k
-    loop-less
-    loop-again
-    returns)
+print-singles-spec = tie.close (tie.spec Inv-loop μ-loop (λ c. search needs) (λ c κs. search needs) (λ c κs. search needs) (λ c. search needs)
+    (λ c. search needs) loop-again returns)

@@ -8,18 +8,6 @@ use Rattle.restricted.specs.Code.{numbered}
 use Rattle.restricted.proofs.code.coded_size.Statement.{statement}
 use Rattle.restricted.proofs.code.coded_size.Tie as tie
 
-coding-of-requires : tie.Need-coding-of-requires
-coding-of-requires c κs = search needs
-
-enum-told : tie.Need-enum-told
-enum-told c = search needs
-
-enum-told-2 : tie.Need-enum-told-2
-enum-told-2 c = search needs
-
-enum-told-3 : tie.Need-enum-told-3
-enum-told-3 c = search needs
-
 returns : tie.Need-returns
 unfolding spelled
 returns c = rw (c .enum-told .given .1) at (ap length (c .before .before .coding-of .ensures))
@@ -35,4 +23,4 @@ returns-3 c = rw (c .enum-told3 .given .1) at (ap length (c .before .before .cod
 pub coded-size-spec : {M : Type 1} → statement M
 coded-size-spec =
     tie.close
-    (tie.spec coding-of-requires enum-told enum-told-2 enum-told-3 returns returns-2 returns-3)
+    (tie.spec (λ c κs. search needs) (λ c. search needs) (λ c. search needs) (λ c. search needs) returns returns-2 returns-3)

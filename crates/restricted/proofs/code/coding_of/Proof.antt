@@ -68,17 +68,5 @@ returns-10 c =
     rw (e, ne-eqb b 32 (r .0 .0 .0 .0 .0 .0 .0 .1), ne-eqb b 95 (r .0 .0 .0 .0 .0 .0 .1), ne-eqb b 40 (r .0 .0 .0 .0 .0 .1), ne-eqb b 41 (r .0 .0 .0 .0 .1), ne-eqb b 44 (r .0 .0 .0 .1), ne-eqb b 58 (r .0 .0 .1), ne-eqb b 92 (r .0 .1), ne-eqb b 35 (r .1), differs b 61 e equals-plain, differs b 47 e slash-plain)
 
 pub coding-of-spec : {M : Type 1} → statement M
-coding-of-spec =
-    tie.close
-    (tie.spec
-    is-plain-requires
-    returns
-    returns-2
-    returns-3
-    returns-4
-    returns-5
-    returns-6
-    returns-7
-    returns-8
-    returns-9
+coding-of-spec = tie.close (tie.spec is-plain-requires returns returns-2 returns-3 returns-4 returns-5 returns-6 returns-7 returns-8 returns-9
     returns-10)

@@ -72,18 +72,5 @@ returns-3 c =
     sym (answer-done (a .s .now) (a .room) (omega (arith, l .inv .1, e)) (l .inv .0 ∙ all-end isChar (a .s .now) (l .i) (omega arith)))
 
 pub judge-coded-spec : {M : Type 1} → statement M
-judge-coded-spec =
-    tie.close
-    (tie.spec
-    Inv-loop
-    μ-loop
-    loop-holds
-    shared-slice-read-b
-    returns
-    coded-size-requires
-    short-answer-requires
-    returns-2
-    add-i
-    loop-less
-    loop-again
-    returns-3)
+judge-coded-spec = tie.close (tie.spec Inv-loop μ-loop loop-holds shared-slice-read-b returns coded-size-requires short-answer-requires returns-2
+    add-i loop-less loop-again returns-3)

@@ -10,18 +10,6 @@ use Rattle.restricted.specs.Code.{codeChar, numbered}
 use Rattle.restricted.proofs.code.put_char.Statement.{statement}
 use Rattle.restricted.proofs.code.put_char.Tie as tie
 
-coding-of-requires : tie.Need-coding-of-requires
-coding-of-requires c κs = search needs
-
-enum-known-c : tie.Need-enum-known-c
-enum-known-c c = search needs
-
-enum-known-letter : tie.Need-enum-known-letter
-enum-known-letter c = search needs
-
-enum-told : tie.Need-enum-told
-enum-told c = search needs
-
 -- what each way of coding spells
 single : (c : tie.After-c) → let k = c .before .before in c .c .given .0 .0 ∷ [] ≡ codeChar (k .before .before .args .b)
 unfolding spelled
@@ -45,38 +33,15 @@ put-number-requires : tie.Need-put-number-requires
 unfolding numbered
 put-number-requires c κs = omega (arith, ap length (number (c .before)))
 
-same-length : tie.Need-same-length
-same-length c = search needs
-
 returns : tie.Need-returns
 returns c = rw (← (single (c .before .before .before .before .before))) (c .before .before .put-byte .ensures)
 
-same-length-2 : tie.Need-same-length-2
-same-length-2 c = search needs
-
 returns-2 : tie.Need-returns-2
 returns-2 c = rw (← (short (c .before .before .before .before .before))) (c .before .before .put-short .ensures)
-
-same-length-3 : tie.Need-same-length-3
-same-length-3 c = search needs
 
 returns-3 : tie.Need-returns-3
 returns-3 c = rw (← (number (c .before .before .before .before))) (c .before .before .put-number .ensures)
 
 pub put-char-spec : {M : Type 1} → statement M
-put-char-spec =
-    tie.close
-    (tie.spec
-    coding-of-requires
-    enum-known-c
-    put-byte-requires
-    enum-known-letter
-    put-short-requires
-    enum-told
-    put-number-requires
-    same-length
-    returns
-    same-length-2
-    returns-2
-    same-length-3
-    returns-3)
+put-char-spec = tie.close (tie.spec (λ c κs. search needs) (λ c. search needs) put-byte-requires (λ c. search needs) put-short-requires
+    (λ c. search needs) put-number-requires (λ c. search needs) returns (λ c. search needs) returns-2 (λ c. search needs) returns-3)

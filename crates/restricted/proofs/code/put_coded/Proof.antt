@@ -20,17 +20,8 @@ loop-holds c =
     let a = c .before .before .args in
     (refl, coding-start (a .s .now) (a .dst .now))
 
-shared-slice-read-put-char : tie.Need-shared-slice-read-put-char Inv-loop μ-loop
-shared-slice-read-put-char c = omega arith
-
 put-char-requires : tie.Need-put-char-requires Inv-loop μ-loop
 put-char-requires c κs = omega (arith, coding-room (c .before .before .before .loop .inv .1) (omega arith) (omega arith))
-
-add-i : tie.Need-add-i Inv-loop μ-loop
-add-i c = omega arith
-
-loop-less : tie.Need-loop-less Inv-loop μ-loop
-loop-less c = omega arith
 
 loop-again : tie.Need-loop-again Inv-loop μ-loop
 loop-again c =
@@ -45,16 +36,5 @@ returns : tie.Need-returns Inv-loop μ-loop
 returns c = coding-end (c .before .loop .inv .1) (omega arith)
 
 pub put-coded-spec : {M : Type 1} → statement M
-put-coded-spec =
-    tie.close
-    (tie.spec
-    Inv-loop
-    μ-loop
-    loop-holds
-    shared-slice-read-put-char
-    put-char-requires
-    add-i
-    loop-less
-    loop-again
-    same-length
-    returns)
+put-coded-spec = tie.close (tie.spec Inv-loop μ-loop loop-holds (λ c. omega arith) put-char-requires (λ c. omega arith) (λ c. omega arith) loop-again
+    same-length returns)

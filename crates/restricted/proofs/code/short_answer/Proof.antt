@@ -6,9 +6,6 @@ use Rattle.restricted.specs.Answers.{shortAnswer}
 use Rattle.restricted.proofs.code.short_answer.Statement.{statement}
 use Rattle.restricted.proofs.code.short_answer.Tie as tie
 
-all-chars-requires : tie.Need-all-chars-requires
-all-chars-requires c κs = search needs
-
 returns : tie.Need-returns
 unfolding shortAnswer
 returns c = rw (sym (c .before .all-chars .ensures) ∙ c .if1 .taken)
@@ -18,4 +15,4 @@ unfolding shortAnswer
 returns-2 c = rw (sym (c .before .all-chars .ensures) ∙ c .if1 .left)
 
 pub short-answer-spec : {M : Type 1} → statement M
-short-answer-spec = tie.close (tie.spec all-chars-requires returns returns-2)
+short-answer-spec = tie.close (tie.spec (λ c κs. search needs) returns returns-2)

@@ -9,23 +9,14 @@ use Rattle.restricted.proofs.Laws.Convert.{told-done, told-short}
 use Rattle.restricted.proofs.convert.place_as_it_stands.Statement.{statement}
 use Rattle.restricted.proofs.convert.place_as_it_stands.Tie as tie
 
-refused-requires : tie.Need-refused-requires
-refused-requires c κs = search needs
-
 returns : tie.Need-returns
 returns c =
     let a = c .before .before .before .before .args in
     ap (λ (w : RestrictedWritten). told w (a .out .now)) (c .refused .ensures) ∙ told-short (a .s .now) (a .out .now) (omega arith)
-
-put-requires : tie.Need-put-requires
-put-requires c κs = search needs
-
-same-length : tie.Need-same-length
-same-length c = search needs
 
 returns-2 : tie.Need-returns-2
 returns-2 c = told-done (c .before .before .put .ensures) (omega arith)
 
 pub place-as-it-stands-spec : {M : Type 1} → statement M
 place-as-it-stands-spec =
-    tie.close (tie.spec refused-requires returns put-requires same-length returns-2)
+    tie.close (tie.spec (λ c κs. search needs) returns (λ c κs. search needs) (λ c. search needs) returns-2)

@@ -10,23 +10,14 @@ use Rattle.restricted.proofs.Laws.Convert.{told-done, told-short}
 use Rattle.restricted.proofs.convert.place_parsed.Statement.{statement}
 use Rattle.restricted.proofs.convert.place_parsed.Tie as tie
 
-refused-requires : tie.Need-refused-requires
-refused-requires c κs = search needs
-
 returns : tie.Need-returns
 returns c =
     let a = c .before .before .before .before .args in
     ap (λ (w : RestrictedWritten). told w (a .out .now)) (c .refused .ensures) ∙ told-short (decoded (a .s .now)) (a .out .now) (omega arith)
-
-put-parsed-requires : tie.Need-put-parsed-requires
-put-parsed-requires c κs = search needs
-
-same-length : tie.Need-same-length
-same-length c = search needs
 
 returns-2 : tie.Need-returns-2
 returns-2 c = told-done (c .before .before .put-parsed .ensures) (omega arith)
 
 pub place-parsed-spec : {M : Type 1} → statement M
 place-parsed-spec =
-    tie.close (tie.spec refused-requires returns put-parsed-requires same-length returns-2)
+    tie.close (tie.spec (λ c κs. search needs) returns (λ c κs. search needs) (λ c. search needs) returns-2)

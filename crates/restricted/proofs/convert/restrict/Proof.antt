@@ -15,12 +15,6 @@ use Rattle.restricted.proofs.Laws.Convert.{answered, done-fits, restric
 use Rattle.restricted.proofs.convert.restrict.Statement.{statement}
 use Rattle.restricted.proofs.convert.restrict.Tie as tie
 
-judge-coded-requires : tie.Need-judge-coded-requires
-judge-coded-requires c κs = search needs
-
-enum-told : tie.Need-enum-told
-enum-told c = search needs
-
 -- the answer for the text
 came : (c : tie.After-judge-coded) (r : RestrictedAnswer) → c .judge-coded .result ≡ r → let a = c .before .before .before .args in codedAnswer (a .text .now) (length (a .out .now)) ≡ r
 came c r e = sym (c .judge-coded .ensures) ∙ e
@@ -37,21 +31,6 @@ write-coded-requires c κs =
     let j = n .before .before in
     let a = j .before .before .before .args in
     omega (arith, done-fits (a .text .now) (length (a .out .now)) (came j Done (n .enum-told .given .1)))
-
-enum-told-2 : tie.Need-enum-told-2
-enum-told-2 c = search needs
-
-refused-requires : tie.Need-refused-requires
-refused-requires c κs = search needs
-
-enum-told-3 : tie.Need-enum-told-3
-enum-told-3 c = search needs
-
-refused-requires-2 : tie.Need-refused-requires-2
-refused-requires-2 c κs = search needs
-
-same-length : tie.Need-same-length
-same-length c = search needs
 
 returns : tie.Need-returns
 unfolding answered
@@ -74,17 +53,5 @@ returns-3 c =
     ap (λ (w : RestrictedWritten). told w (j .before .before .before .args .out .now)) (c .refused2 .ensures) ∙ comes j ShortBuffer (n .enum-told3 .given .1)
 
 pub restrict-spec : {M : Type 1} → statement M
-restrict-spec =
-    tie.close
-    (tie.spec
-    judge-coded-requires
-    enum-told
-    write-coded-requires
-    enum-told-2
-    refused-requires
-    enum-told-3
-    refused-requires-2
-    same-length
-    returns
-    returns-2
-    returns-3)
+restrict-spec = tie.close (tie.spec (λ c κs. search needs) (λ c. search needs) write-coded-requires (λ c. search needs) (λ c κs. search needs)
+    (λ c. search needs) (λ c κs. search needs) (λ c. search needs) returns returns-2 returns-3)

@@ -13,12 +13,6 @@ use Rattle.restricted.proofs.Laws.Parse.{decoded-parsed, decoded-stands
 use Rattle.restricted.proofs.convert.unrestrict.Statement.{statement}
 use Rattle.restricted.proofs.convert.unrestrict.Tie as tie
 
-measure-parsed-requires : tie.Need-measure-parsed-requires
-measure-parsed-requires c κs = search needs
-
-enum-known-n : tie.Need-enum-known-n
-enum-known-n c = search needs
-
 -- what measuring came to
 parsed : (c : tie.After-n) → let m = c .before .before in Measured (m .before .before .before .args .text .now) (Length (c .n .given .0 .0))
 parsed c = rw (c .n .given .1) at (c .before .before .measure-parsed .ensures)
@@ -37,30 +31,12 @@ place-parsed-requires c κs =
     let e = decoded-parsed (n .before .before .before .before .before .args .text .now) (m .1) (m .2) in
     (rw e (m .2), rw e (m .3))
 
-enum-told : tie.Need-enum-told
-enum-told c = search needs
-
-place-as-it-stands-requires : tie.Need-place-as-it-stands-requires
-place-as-it-stands-requires c κs = search needs
-
-enum-told-2 : tie.Need-enum-told-2
-enum-told-2 c = search needs
-
-refused-requires : tie.Need-refused-requires
-refused-requires c κs = search needs
-
-same-length : tie.Need-same-length
-same-length c = search needs
-
 returns : tie.Need-returns
 unfolding Measured
 returns c =
     let n = c .before .before .before .before .before in
     let a = n .before .before .before .before .before .args in
     c .before .before .place-parsed .ensures ∙ sym (unrestrict-chars (a .text .now) (a .out .now) (parsed n .0))
-
-same-length-2 : tie.Need-same-length-2
-same-length-2 c = search needs
 
 returns-2 : tie.Need-returns-2
 unfolding Measured
@@ -79,18 +55,5 @@ returns-3 c =
     ap (λ (w : RestrictedWritten). told w (a .out .now)) (c .refused .ensures) ∙ sym (unrestrict-high (a .text .now) (a .out .now) (high n))
 
 pub unrestrict-spec : {M : Type 1} → statement M
-unrestrict-spec =
-    tie.close
-    (tie.spec
-    measure-parsed-requires
-    enum-known-n
-    place-parsed-requires
-    enum-told
-    place-as-it-stands-requires
-    enum-told-2
-    refused-requires
-    same-length
-    returns
-    same-length-2
-    returns-2
-    returns-3)
+unrestrict-spec = tie.close (tie.spec (λ c κs. search needs) (λ c. search needs) place-parsed-requires (λ c. search needs) (λ c κs. search needs)
+    (λ c. search needs) (λ c κs. search needs) (λ c. search needs) returns (λ c. search needs) returns-2 returns-3)

@@ -5,14 +5,8 @@ use Rattle.restricted.proofs.Laws.Convert.{told-done}
 use Rattle.restricted.proofs.convert.write_coded.Statement.{statement}
 use Rattle.restricted.proofs.convert.write_coded.Tie as tie
 
-put-coded-requires : tie.Need-put-coded-requires
-put-coded-requires c κs = search needs
-
-same-length : tie.Need-same-length
-same-length c = search needs
-
 returns : tie.Need-returns
 returns c = told-done (c .before .before .put-coded .ensures) (c .before .before .before .before .before .before .pre)
 
 pub write-coded-spec : {M : Type 1} → statement M
-write-coded-spec = tie.close (tie.spec put-coded-requires same-length returns)
+write-coded-spec = tie.close (tie.spec (λ c κs. search needs) (λ c. search needs) returns)

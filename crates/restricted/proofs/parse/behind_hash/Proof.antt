@@ -69,15 +69,4 @@ returns-4 c =
     (omega (arith, e)))
 
 pub behind-hash-spec : {M : Type 1} → statement M
-behind-hash-spec =
-    tie.close
-    (tie.spec
-    short-at-requires
-    returns
-    add-byte-at
-    byte-at-requires
-    returns-2
-    number-at-requires
-    returns-3
-    cast-t6
-    returns-4)
+behind-hash-spec = tie.close (tie.spec short-at-requires returns add-byte-at byte-at-requires returns-2 number-at-requires returns-3 cast-t6 returns-4)

@@ -8,9 +8,6 @@ use Rattle.restricted.specs.Code.{charIn, charOf, short}
 use Rattle.restricted.proofs.parse.char_of.Statement.{statement}
 use Rattle.restricted.proofs.parse.char_of.Tie as tie
 
-fold-case-requires : tie.Need-fold-case-requires
-fold-case-requires c κs = search needs
-
 returns : tie.Need-returns
 unfolding charOf charIn short bytes
 returns c = rw (sym (c .before .fold-case .ensures) ∙ c .match .keys1)
@@ -55,17 +52,5 @@ returns-10 c =
     rw (sym (c .before .fold-case .ensures), ne-eqb l 117 (r .0 .0 .0 .0 .0 .0 .0 .0 .1), ne-eqb l 108 (r .0 .0 .0 .0 .0 .0 .0 .1), ne-eqb l 114 (r .0 .0 .0 .0 .0 .0 .1), ne-eqb l 109 (r .0 .0 .0 .0 .0 .1), ne-eqb l 99 (r .0 .0 .0 .0 .1), ne-eqb l 98 (r .0 .0 .0 .1), ne-eqb l 104 (r .0 .0 .1), ne-eqb l 101 (r .0 .1), ne-eqb l 115 (r .1))
 
 pub char-of-spec : {M : Type 1} → statement M
-char-of-spec =
-    tie.close
-    (tie.spec
-    fold-case-requires
-    returns
-    returns-2
-    returns-3
-    returns-4
-    returns-5
-    returns-6
-    returns-7
-    returns-8
-    returns-9
+char-of-spec = tie.close (tie.spec (λ c κs. search needs) returns returns-2 returns-3 returns-4 returns-5 returns-6 returns-7 returns-8 returns-9
     returns-10)

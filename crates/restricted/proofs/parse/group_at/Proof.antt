@@ -10,12 +10,6 @@ use Rattle.restricted.proofs.Laws.Parse.{group-other, group-plain, grou
 use Rattle.restricted.proofs.parse.group_at.Statement.{statement}
 use Rattle.restricted.proofs.parse.group_at.Tie as tie
 
-shared-slice-read-b : tie.Need-shared-slice-read-b
-shared-slice-read-b c = search needs
-
-is-plain-requires : tie.Need-is-plain-requires
-is-plain-requires c κs = search needs
-
 returns : tie.Need-returns
 returns c =
     let p = c .before in
@@ -30,12 +24,6 @@ returns-2 c =
     let a = p .before .before .before .args in
     let s = a .s .now in
     rw (front-there s (a .at) (omega arith)) (group-space (getD s (a .at) 0) (drop (a .at + 1) s) (c .if2 .taken))
-
-add-behind-hash : tie.Need-add-behind-hash
-add-behind-hash c = search needs
-
-behind-hash-requires : tie.Need-behind-hash-requires
-behind-hash-requires c κs = search needs
 
 returns-3 : tie.Need-returns-3
 returns-3 c =
@@ -53,14 +41,5 @@ returns-4 c =
     (group-other (getD s (a .at) 0) (drop (a .at + 1) s) (sym (p .is-plain .ensures) ∙ c .before .before .if1 .left) (c .before .if2 .left) (c .if3 .left))
 
 pub group-at-spec : {M : Type 1} → statement M
-group-at-spec =
-    tie.close
-    (tie.spec
-    shared-slice-read-b
-    is-plain-requires
-    returns
-    returns-2
-    add-behind-hash
-    behind-hash-requires
-    returns-3
+group-at-spec = tie.close (tie.spec (λ c. search needs) (λ c κs. search needs) returns returns-2 (λ c. search needs) (λ c κs. search needs) returns-3
     returns-4)

@@ -21,9 +21,6 @@ abbrev μ-loop : tie.MeasureT-loop
 loop-holds : tie.Need-loop-holds Inv-loop μ-loop
 loop-holds c = (omega arith, parsing-start (c .before .args .s .now))
 
-group-at-requires : tie.Need-group-at-requires Inv-loop μ-loop
-group-at-requires c κs = omega arith
-
 unparsed-answer-requires : tie.Need-unparsed-answer-requires Inv-loop μ-loop
 unparsed-answer-requires c κs = tt
 
@@ -33,9 +30,6 @@ returns c =
     let l = g .before .before .loop in
     let s = g .before .before .before .before .args .s .now in
     measured-none s (drop (l .i) s) (c .unparsed-answer .result) (parsing-none (l .inv .1) (g .group-at .ensures) (c .before .if1 .taken)) (l .inv .1 .chars) (c .unparsed-answer .ensures)
-
-add-n : tie.Need-add-n Inv-loop μ-loop
-add-n c = omega arith
 
 add-i : tie.Need-add-i Inv-loop μ-loop
 add-i c = omega (arith, c .before .group-at .ensures .fits)
@@ -57,17 +51,5 @@ returns-2 c =
     (d .chars ∙ all-end isChar s (l .i) (omega arith), d .text, parsing-end d (omega arith), d .size)
 
 pub measure-parsed-spec : {M : Type 1} → statement M
-measure-parsed-spec =
-    tie.close
-    (tie.spec
-    Inv-loop
-    μ-loop
-    loop-holds
-    group-at-requires
-    unparsed-answer-requires
-    returns
-    add-n
-    add-i
-    loop-less
-    loop-again
-    returns-2)
+measure-parsed-spec = tie.close (tie.spec Inv-loop μ-loop loop-holds (λ c κs. omega arith) unparsed-answer-requires returns (λ c. omega arith) add-i
+    loop-less loop-again returns-2)

@@ -20,9 +20,6 @@ loop-holds c =
     let a = c .before .before .args in
     (refl, writing-start (a .s .now) (a .dst .now))
 
-group-at-requires : tie.Need-group-at-requires Inv-loop μ-loop
-group-at-requires c κs = omega arith
-
 -- what stands at the place, and room for it
 there : (c : tie.After-group-at Inv-loop μ-loop) → c .group-at .result .len ≡ 0 → ⊥
 there c = parsing-some (c .before .before .loop .inv .1 .parsed) (c .group-at .ensures) (c .before .before .before .before .before .pre .0)
@@ -59,17 +56,5 @@ returns c =
     rw (decoded-parsed s (d .parsed .text) (parsing-end (d .parsed) (omega arith))) (d .wrote)
 
 pub put-parsed-spec : {M : Type 1} → statement M
-put-parsed-spec =
-    tie.close
-    (tie.spec
-    Inv-loop
-    μ-loop
-    loop-holds
-    group-at-requires
-    slice-write-dst
-    add-n
-    add-i
-    loop-less
-    loop-again
-    same-length
+put-parsed-spec = tie.close (tie.spec Inv-loop μ-loop loop-holds (λ c κs. omega arith) slice-write-dst add-n add-i loop-less loop-again same-length
     returns)

@@ -6,35 +6,12 @@ use borrow.Author.Needs.{needs}
 use Rattle.restricted_cases.proofs.case.run_spelt.Statement.{statement}
 use Rattle.restricted_cases.proofs.case.run_spelt.Tie as tie
 
-slice-aggregate-unhex : tie.Need-slice-aggregate-unhex
-slice-aggregate-unhex c = search needs
-
-unhex-requires : tie.Need-unhex-requires
-unhex-requires c κs = search needs
-
-array-share-prefix-text : tie.Need-array-share-prefix-text
-array-share-prefix-text c = search needs
-
 slice-aggregate-run-case : tie.Need-slice-aggregate-run-case
 slice-aggregate-run-case c = sym (length-take-le _ _ (search needs))
-
-number-requires : tie.Need-number-requires
-number-requires c κs = search needs
-
-run-case-requires : tie.Need-run-case-requires
-run-case-requires c κs = search needs
 
 returns : tie.Need-returns
 returns c = search needs
 
 pub run-spelt-spec : {M : Type 1} → statement M
-run-spelt-spec =
-    tie.close
-    (tie.spec
-    slice-aggregate-unhex
-    unhex-requires
-    array-share-prefix-text
-    slice-aggregate-run-case
-    number-requires
-    run-case-requires
-    returns)
+run-spelt-spec = tie.close (tie.spec (λ c. search needs) (λ c κs. search needs) (λ c. search needs) slice-aggregate-run-case (λ c κs. search needs)
+    (λ c κs. search needs) returns)

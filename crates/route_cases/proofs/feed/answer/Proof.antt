@@ -19,34 +19,10 @@ Inv-loop table input over at end out₀ last over₀ at₀ out over' at' = (leng
 abbrev μ-loop : tie.MeasureT-loop
 μ-loop table input over at end out₀ last over₀ at₀ out over' at' = end - at'
 
-loop-holds : tie.Need-loop-holds Inv-loop μ-loop
-loop-holds c = search needs
-
-sub-route : tie.Need-sub-route Inv-loop μ-loop
-sub-route c = search needs
-
-part-route-start : tie.Need-part-route-start Inv-loop μ-loop
-part-route-start c = search needs
-
-part-route-end : tie.Need-part-route-end Inv-loop μ-loop
-part-route-end c = search needs
-
-route-requires : tie.Need-route-requires Inv-loop μ-loop
-route-requires c κs = search needs
-
-slice-reshare-prefix-write-all : tie.Need-slice-reshare-prefix-write-all Inv-loop μ-loop
-slice-reshare-prefix-write-all c = search needs
-
 slice-aggregate-write-all : tie.Need-slice-aggregate-write-all Inv-loop μ-loop
 slice-aggregate-write-all c =
     let r = c .before .before .before .route in
     sym (length-take-le (r .result .written) (r .last .1 .1 .1 .1 .0) (omega (arith, r .ensures .went .room, wrote-length (r .ensures .went .wrote))))
-
-write-all-requires : tie.Need-write-all-requires Inv-loop μ-loop
-write-all-requires c κs = search needs
-
-same-length : tie.Need-same-length Inv-loop μ-loop
-same-length c = search needs
 
 returns : tie.Need-returns Inv-loop μ-loop
 returns c =
@@ -64,17 +40,8 @@ returns c =
       all = λ e. absurd (omega (arith, ap length (w .more (eq-eqb (a .end) (length s) e)), n));
     }
 
-add-at : tie.Need-add-at Inv-loop μ-loop
-add-at c = search needs
-
-loop-less : tie.Need-loop-less Inv-loop μ-loop
-loop-less c = search needs
-
 loop-again : tie.Need-loop-again Inv-loop μ-loop
 loop-again c = search needs
-
-same-length-2 : tie.Need-same-length-2 Inv-loop μ-loop
-same-length-2 c = search needs
 
 returns-2 : tie.Need-returns-2 Inv-loop μ-loop
 returns-2 c =
@@ -87,23 +54,6 @@ returns-2 c =
     }
 
 pub answer-spec : {M : Type 1} → statement M
-answer-spec =
-    tie.close
-    (tie.spec
-    Inv-loop
-    μ-loop
-    loop-holds
-    sub-route
-    part-route-start
-    part-route-end
-    route-requires
-    slice-reshare-prefix-write-all
-    slice-aggregate-write-all
-    write-all-requires
-    same-length
-    returns
-    add-at
-    loop-less
-    loop-again
-    same-length-2
-    returns-2)
+answer-spec = tie.close (tie.spec Inv-loop μ-loop (λ c. search needs) (λ c. search needs) (λ c. search needs) (λ c. search needs)
+    (λ c κs. search needs) (λ c. search needs) slice-aggregate-write-all (λ c κs. search needs) (λ c. search needs) returns (λ c. search needs)
+    (λ c. search needs) loop-again (λ c. search needs) returns-2)

@@ -15,9 +15,6 @@ use Rattle.route_cases.proofs.feed.step.Tie as tie
 abbrev steps : List ℕ
 steps = 1 ∷ 7 ∷ 64 ∷ 2 ∷ 4095 ∷ 13 ∷ 3 ∷ 512 ∷ []
 
-mul-result : tie.Need-mul-result
-mul-result c = search needs
-
 array-read-result : tie.Need-array-read-result
 array-read-result c = search needs
 
@@ -29,4 +26,4 @@ returns c =
     (leb-true 1 x (all-at (leb 1) steps k 0 refl (array-read-result c)), leb-true x 4095 (all-at (λ n. leb n 4095) steps k 0 refl (array-read-result c)))
 
 pub step-spec : {M : Type 1} → statement M
-step-spec = tie.close (tie.spec mul-result array-read-result returns)
+step-spec = tie.close (tie.spec (λ c. search needs) array-read-result returns)

@@ -14,27 +14,6 @@ use borrow.Author.Needs.{needs}
 use Rattle.router.proofs.run.answer_rest.Statement.{statement}
 use Rattle.router.proofs.run.answer_rest.Tie as tie
 
-sub-place-answer : tie.Need-sub-place-answer
-sub-place-answer c = search needs
-
-part-place-answer-start : tie.Need-part-place-answer-start
-part-place-answer-start c = search needs
-
-part-place-answer-end : tie.Need-part-place-answer-end
-part-place-answer-end c = search needs
-
-place-answer-requires : tie.Need-place-answer-requires
-place-answer-requires c κs = search needs
-
-enum-known-n : tie.Need-enum-known-n
-enum-known-n c = search needs
-
-enum-told : tie.Need-enum-told
-enum-told c = search needs
-
-same-length : tie.Need-same-length
-same-length c = search needs
-
 -- all that is left
 rest-is : (at : ℕ) (s : List ℕ) → take (length s - at) (drop at s) ≡ drop at s
 rest-is at s = take-all (length s - at) (drop at s) (omega (arith, length-drop at s))
@@ -52,9 +31,6 @@ returns c =
     (wrote-as (lineAnswer l (take (length s - a .at) (drop (a .at) s))) (lineAnswer l (drop (a .at) s)) (ap (lineAnswer l) (rest-is (a .at) s)) (q .0))
     (q .1)
 
-same-length-2 : tie.Need-same-length-2
-same-length-2 c = search needs
-
 returns-2 : tie.Need-returns-2
 returns-2 c =
     let p = c .before .before .before .before in
@@ -68,16 +44,5 @@ returns-2 c =
     (subst (λ (t : List ℕ). length (a .out .now) < a .written + length (lineAnswer l t)) (rest-is (a .at) s) (q .1))
 
 pub answer-rest-spec : {M : Type 1} → statement M
-answer-rest-spec =
-    tie.close
-    (tie.spec
-    sub-place-answer
-    part-place-answer-start
-    part-place-answer-end
-    place-answer-requires
-    enum-known-n
-    enum-told
-    same-length
-    returns
-    same-length-2
-    returns-2)
+answer-rest-spec = tie.close (tie.spec (λ c. search needs) (λ c. search needs) (λ c. search needs) (λ c κs. search needs) (λ c. search needs)
+    (λ c. search needs) (λ c. search needs) returns (λ c. search needs) returns-2)

@@ -5,15 +5,6 @@ use borrow.Author.Needs.{needs}
 use Rattle.router.proofs.run.open.Statement.{statement}
 use Rattle.router.proofs.run.open.Tie as tie
 
-load-requires : tie.Need-load-requires
-load-requires c κs = search needs
-
-same-length : tie.Need-same-length
-same-length c = search needs
-
-same-length-2 : tie.Need-same-length-2
-same-length-2 c = search needs
-
 returns : tie.Need-returns
 returns c =
     let l = c .before .before .before .before .load in
@@ -21,4 +12,4 @@ returns c =
     record { answers = l .ensures .answers; ready = loading-ready (a .text .now) (l .last .1 .0) (l .last .1 .1 .0) (l .result) (l .ensures) }
 
 pub open-spec : {M : Type 1} → statement M
-open-spec = tie.close (tie.spec load-requires same-length same-length-2 returns)
+open-spec = tie.close (tie.spec (λ c κs. search needs) (λ c. search needs) (λ c. search needs) returns)

@@ -14,12 +14,6 @@ use borrow.Author.Needs.{needs}
 use Rattle.router.proofs.run.route.Statement.{statement}
 use Rattle.router.proofs.run.route.Tie as tie
 
-route-from-requires : tie.Need-route-from-requires
-route-from-requires c κs = search needs
-
-same-length : tie.Need-same-length
-same-length c = search needs
-
 returns : tie.Need-returns
 returns c =
     let a = c .before .before .before .before .before .before .before .before .before .before .args in
@@ -27,9 +21,6 @@ returns c =
     subst (λ (b : Bool). RoutingFrom l b (a .input .now) (a .input .now) (a .last) 0 (a .out .now) (c .before .before .route-from .result) (c .before .before .route-from .last .1 .1 .1 .1 .1 .1 .1 .0))
     (sym (not-true (a .over) (c .before .before .before .before .if1 .taken)))
     (c .before .before .route-from .ensures)
-
-part-end-requires : tie.Need-part-end-requires
-part-end-requires c κs = search needs
 
 -- the state is over, and says so
 is-over : (c : tie.After-part-end) → c .before .before .before .before .before .before .before .args .over ≡ true
@@ -60,9 +51,6 @@ route-from-requires-2 c κs =
     let p = c .before .before in
     (p .before .before .before .before .before .before .before .pre, omega (arith, ends (c .before)))
 
-same-length-2 : tie.Need-same-length-2
-same-length-2 c = search needs
-
 returns-3 : tie.Need-returns-3
 returns-3 c =
     let p = c .before .before .before .before .before in
@@ -74,15 +62,5 @@ returns-3 c =
     (routing-then (went-skip (p .part-end .result) (a .out .now) (omega (arith, p .part-end .ensures)) (ends (c .before .before .before .before))) (c .before .before .route-from2 .ensures))
 
 pub route-spec : {M : Type 1} → statement M
-route-spec =
-    tie.close
-    (tie.spec
-    route-from-requires
-    same-length
-    returns
-    part-end-requires
-    returns-2
-    add-route-from
-    route-from-requires-2
-    same-length-2
-    returns-3)
+route-spec = tie.close (tie.spec (λ c κs. search needs) (λ c. search needs) returns (λ c κs. search needs) returns-2 add-route-from
+    route-from-requires-2 (λ c. search needs) returns-3)

@@ -30,9 +30,6 @@ loop-holds c =
     let start = c .before .before .before .before .before in
     (refl, went-start (start .args .from) 0 (start .args .out .now) (start .pre .1) (omega arith))
 
-part-end-requires : tie.Need-part-end-requires Inv-loop μ-loop
-part-end-requires c κs = search needs
-
 route-rest-requires : tie.Need-route-rest-requires Inv-loop μ-loop
 route-rest-requires c κs =
     let p = c .before .before in
@@ -80,9 +77,6 @@ line-is c =
     let e : c .before .part-end .result - at .loop .at ≡ run 10 (drop (at .loop .at) s) = omega (arith, c .before .part-end .ensures) in
     ap (λ (k : ℕ). take k (drop (at .loop .at) s)) e
 
-part-place-answer-start : tie.Need-part-place-answer-start Inv-loop μ-loop
-part-place-answer-start c = search needs
-
 part-place-answer-end : tie.Need-part-place-answer-end Inv-loop μ-loop
 part-place-answer-end c = omega (arith, ends c)
 
@@ -91,12 +85,6 @@ place-answer-requires c κs =
     let at = c .before .before .before .before .before in
     let start = at .before .before .before .before .before .before in
     (start .pre .0, omega (arith, at .loop .inv .1 .room, at .loop .inv .0))
-
-enum-known-n : tie.Need-enum-known-n Inv-loop μ-loop
-enum-known-n c = search needs
-
-enum-told : tie.Need-enum-told Inv-loop μ-loop
-enum-told c = search needs
 
 same-length-2 : tie.Need-same-length-2 Inv-loop μ-loop
 same-length-2 c =
@@ -146,26 +134,6 @@ returns-3 : tie.Need-returns-3 Inv-loop μ-loop
 returns-3 c = routing-end (c .before .loop .inv .1) (omega arith)
 
 pub route-from-spec : {M : Type 1} → statement M
-route-from-spec =
-    tie.close
-    (tie.spec
-    Inv-loop
-    μ-loop
-    loop-holds
-    part-end-requires
-    route-rest-requires
-    same-length
-    returns
-    sub-place-answer
-    part-place-answer-start
-    part-place-answer-end
-    place-answer-requires
-    enum-known-n
-    enum-told
-    same-length-2
-    returns-2
-    add-at
-    loop-less
-    loop-again
-    same-length-3
-    returns-3)
+route-from-spec = tie.close (tie.spec Inv-loop μ-loop loop-holds (λ c κs. search needs) route-rest-requires same-length returns sub-place-answer
+    (λ c. search needs) part-place-answer-end place-answer-requires (λ c. search needs) (λ c. search needs) same-length-2 returns-2 add-at loop-less
+    loop-again same-length-3 returns-3)

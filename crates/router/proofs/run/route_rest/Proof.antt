@@ -51,14 +51,4 @@ returns-3 c =
     (λ e. true-not-false (a .last) e (c .if2 .left))
 
 pub route-rest-spec : {M : Type 1} → statement M
-route-rest-spec =
-    tie.close
-    (tie.spec
-    sub-if1
-    answer-rest-requires
-    same-length
-    returns
-    answer-rest-requires-2
-    same-length-2
-    returns-2
-    returns-3)
+route-rest-spec = tie.close (tie.spec sub-if1 answer-rest-requires same-length returns answer-rest-requires-2 same-length-2 returns-2 returns-3)

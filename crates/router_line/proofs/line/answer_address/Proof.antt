@@ -12,23 +12,11 @@ use borrow.Author.Needs.{needs}
 use Rattle.router_line.proofs.line.answer_address.Statement.{statement}
 use Rattle.router_line.proofs.line.answer_address.Tie as tie
 
-enum-known-read : tie.Need-enum-known-read
-enum-known-read c = search needs
-
 map-line-requires : tie.Need-map-line-requires
 map-line-requires c κs =
     let start = c .before .before .before .before .before .before .before .before .before in
     let r = rw (c .before .before .read .given .1) at (start .pre .0) in
     (r .0, (r .1, start .pre .1))
-
-enum-told : tie.Need-enum-told
-enum-told c = search needs
-
-put-refusal-requires : tie.Need-put-refusal-requires
-put-refusal-requires c κs = search needs
-
-same-length : tie.Need-same-length
-same-length c = search needs
 
 returns : tie.Need-returns
 unfolding loadAnswer toRecordBy
@@ -39,9 +27,6 @@ returns c =
     (recordLine (toRecordBy (loadAnswer (a .text .now) (a .to-path .now) (a .to-domain .now) (a .read)) s))
     (ap (λ (r : TableRead). recordLine (toRecordBy (loadAnswer (a .text .now) (a .to-path .now) (a .to-domain .now) r) s)) (sym (c .before .before .before .before .before .read .given .1)))
     (c .before .before .map-line .ensures)
-
-same-length-2 : tie.Need-same-length-2
-same-length-2 c = search needs
 
 returns-2 : tie.Need-returns-2
 unfolding loadAnswer toRecordBy malformedRecord recordLine
@@ -54,14 +39,5 @@ returns-2 c =
     (c .before .before .put-refusal .ensures)
 
 pub answer-address-spec : {M : Type 1} → statement M
-answer-address-spec =
-    tie.close
-    (tie.spec
-    enum-known-read
-    map-line-requires
-    enum-told
-    put-refusal-requires
-    same-length
-    returns
-    same-length-2
-    returns-2)
+answer-address-spec = tie.close (tie.spec (λ c. search needs) map-line-requires (λ c. search needs) (λ c κs. search needs) (λ c. search needs) returns
+    (λ c. search needs) returns-2)

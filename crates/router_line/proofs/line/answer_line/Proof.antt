@@ -80,23 +80,6 @@ returns-4 c =
     (c .before .before .answer-tagged .ensures)
 
 pub answer-line-spec : {M : Type 1} → statement M
-answer-line-spec =
-    tie.close
-    (tie.spec
-    put-refusal-requires
-    same-length
-    returns
-    put-refusal-requires-2
-    same-length-2
-    returns-2
-    shared-slice-read-if3
-    put-refusal-requires-3
-    same-length-3
-    returns-3
-    shared-slice-read-answer-tagged
-    sub-answer-tagged
-    part-answer-tagged-start
-    part-answer-tagged-end
-    answer-tagged-requires
-    same-length-4
-    returns-4)
+answer-line-spec = tie.close (tie.spec put-refusal-requires same-length returns put-refusal-requires-2 same-length-2 returns-2 shared-slice-read-if3
+    put-refusal-requires-3 same-length-3 returns-3 shared-slice-read-answer-tagged sub-answer-tagged part-answer-tagged-start part-answer-tagged-end
+    answer-tagged-requires same-length-4 returns-4)

@@ -8,24 +8,12 @@ use borrow.Author.Needs.{needs}
 use Rattle.router_line.proofs.line.answer_tagged.Statement.{statement}
 use Rattle.router_line.proofs.line.answer_tagged.Tie as tie
 
-answer-address-requires : tie.Need-answer-address-requires
-answer-address-requires c κs = search needs
-
-same-length : tie.Need-same-length
-same-length c = search needs
-
 returns : tie.Need-returns
 returns c =
     let a = c .before .before .before .before .before .before .before .before .before .before .args in
     let l = loadAnswer (a .text .now) (a .to-path .now) (a .to-domain .now) (a .read) in
     wrote-as (recordLine (toRecordBy l (a .s .now))) (taggedLine l (a .tag) (a .s .now)) (tagged-address l (a .s .now) (a .tag) (c .before .before .before .before .if1 .taken))
     (c .before .before .answer-address .ensures)
-
-answer-text-requires : tie.Need-answer-text-requires
-answer-text-requires c κs = search needs
-
-same-length-2 : tie.Need-same-length-2
-same-length-2 c = search needs
 
 returns-2 : tie.Need-returns-2
 returns-2 c =
@@ -34,12 +22,6 @@ returns-2 c =
     let i = c .before .before .before .before in
     wrote-as (textLine l (a .s .now)) (taggedLine l (a .tag) (a .s .now)) (tagged-text l (a .s .now) (a .tag) (i .before .if1 .left) (i .if2 .taken))
     (c .before .before .answer-text .ensures)
-
-put-refusal-requires : tie.Need-put-refusal-requires
-put-refusal-requires c κs = search needs
-
-same-length-3 : tie.Need-same-length-3
-same-length-3 c = search needs
 
 returns-3 : tie.Need-returns-3
 returns-3 c =
@@ -50,15 +32,5 @@ returns-3 c =
     (c .before .before .put-refusal .ensures)
 
 pub answer-tagged-spec : {M : Type 1} → statement M
-answer-tagged-spec =
-    tie.close
-    (tie.spec
-    answer-address-requires
-    same-length
-    returns
-    answer-text-requires
-    same-length-2
-    returns-2
-    put-refusal-requires
-    same-length-3
-    returns-3)
+answer-tagged-spec = tie.close (tie.spec (λ c κs. search needs) (λ c. search needs) returns (λ c κs. search needs) (λ c. search needs) returns-2
+    (λ c κs. search needs) (λ c. search needs) returns-3)

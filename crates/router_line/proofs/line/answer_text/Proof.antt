@@ -11,23 +11,11 @@ use borrow.Author.Needs.{needs}
 use Rattle.router_line.proofs.line.answer_text.Statement.{statement}
 use Rattle.router_line.proofs.line.answer_text.Tie as tie
 
-enum-known-read : tie.Need-enum-known-read
-enum-known-read c = search needs
-
 read-line-requires : tie.Need-read-line-requires
 read-line-requires c κs =
     let start = c .before .before .before .before .before .before .before .before .before in
     let r = rw (c .before .before .read .given .1) at (start .pre .0) in
     (r .0 .gateway, (r .0 .domains, start .pre .1))
-
-enum-told : tie.Need-enum-told
-enum-told c = search needs
-
-put-refusal-requires : tie.Need-put-refusal-requires
-put-refusal-requires c κs = search needs
-
-same-length : tie.Need-same-length
-same-length c = search needs
 
 returns : tie.Need-returns
 unfolding loadAnswer
@@ -41,9 +29,6 @@ returns c =
     ∙ ap (λ (r : TableRead). textLine (loadAnswer (a .text .now) (a .to-path .now) (a .to-domain .now) r) s) (sym (c .before .before .before .before .before .read .given .1)))
     (c .before .before .read-line .ensures)
 
-same-length-2 : tie.Need-same-length-2
-same-length-2 c = search needs
-
 returns-2 : tie.Need-returns-2
 unfolding loadAnswer textLine
 returns-2 c =
@@ -55,14 +40,5 @@ returns-2 c =
     (c .before .before .put-refusal .ensures)
 
 pub answer-text-spec : {M : Type 1} → statement M
-answer-text-spec =
-    tie.close
-    (tie.spec
-    enum-known-read
-    read-line-requires
-    enum-told
-    put-refusal-requires
-    same-length
-    returns
-    same-length-2
-    returns-2)
+answer-text-spec = tie.close (tie.spec (λ c. search needs) read-line-requires (λ c. search needs) (λ c κs. search needs) (λ c. search needs) returns
+    (λ c. search needs) returns-2)

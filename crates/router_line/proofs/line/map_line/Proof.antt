@@ -15,12 +15,6 @@ use borrow.Author.Needs.{needs}
 use Rattle.router_line.proofs.line.map_line.Statement.{statement}
 use Rattle.router_line.proofs.line.map_line.Tie as tie
 
-map-address-requires : tie.Need-map-address-requires
-map-address-requires c κs = search needs
-
-record-number-requires : tie.Need-record-number-requires
-record-number-requires c κs = search needs
-
 -- what address to record told, under the table
 told : (c : tie.After-map-address) → let a = c .before .before .before .before .before .before .args in
     toldRecord (c .map-address .result) ≡ toRecord (tableAt (a .text .now) (a .to-path .now) (a .to-domain .now) (a .table)) (a .s .now)
@@ -38,9 +32,6 @@ put-record-requires c κs =
     let a = start .args in
     let t = tableAt (a .text .now) (a .to-path .now) (a .to-domain .now) (a .table) in
     (start .pre .1 .1, record-canonical t (a .s .now) (m .map-address .result) (told m) (c .before .before .before .record-number .result) (c .before .before .before .record-number .ensures) (start .pre .1 .0) (c .before .before .if1 .taken))
-
-same-length : tie.Need-same-length
-same-length c = search needs
 
 returns : tie.Need-returns
 returns c =
@@ -60,9 +51,6 @@ put-refusal-requires c κs =
     let t = tableAt (a .text .now) (a .to-path .now) (a .to-domain .now) (a .table) in
     (omega (arith, start .pre .1 .1), record-small t (a .s .now) (m .map-address .result) (told m) (c .before .before .record-number .result) (c .before .before .record-number .ensures))
 
-same-length-2 : tie.Need-same-length-2
-same-length-2 c = search needs
-
 returns-2 : tie.Need-returns-2
 returns-2 c =
     let n = c .before .before .before .before .before in
@@ -74,14 +62,5 @@ returns-2 c =
     (c .before .before .put-refusal .ensures)
 
 pub map-line-spec : {M : Type 1} → statement M
-map-line-spec =
-    tie.close
-    (tie.spec
-    map-address-requires
-    record-number-requires
-    put-record-requires
-    same-length
-    returns
-    put-refusal-requires
-    same-length-2
-    returns-2)
+map-line-spec = tie.close (tie.spec (λ c κs. search needs) (λ c κs. search needs) put-record-requires (λ c. search needs) returns put-refusal-requires
+    (λ c. search needs) returns-2)

@@ -15,12 +15,6 @@ use borrow.Author.Needs.{needs}
 use Rattle.router_line.proofs.line.place_answer.Statement.{statement}
 use Rattle.router_line.proofs.line.place_answer.Tie as tie
 
-slice-aggregate-answer-line : tie.Need-slice-aggregate-answer-line
-slice-aggregate-answer-line c = search needs
-
-answer-line-requires : tie.Need-answer-line-requires
-answer-line-requires c κs = search needs
-
 -- any answer fits
 fits : (c : tie.After-answer-line) → let start = c .before .before .before .before .before .before .before in
     let a = start .args in
@@ -38,12 +32,6 @@ slice-aggregate-place c =
     let w = c .before .before .before .answer-line in
     sym (length-take-le (w .result) (w .last .1 .1 .1 .1 .1 .0) (omega (arith, fits (c .before .before .before), w .ensures .moved, wrote-length (w .ensures))))
 
-place-requires : tie.Need-place-requires
-place-requires c κs = search needs
-
-same-length : tie.Need-same-length
-same-length c = search needs
-
 returns : tie.Need-returns
 returns c =
     let w = c .before .before .before .before .before .before in
@@ -53,13 +41,5 @@ returns c =
     (c .before .before .place .ensures)
 
 pub place-answer-spec : {M : Type 1} → statement M
-place-answer-spec =
-    tie.close
-    (tie.spec
-    slice-aggregate-answer-line
-    answer-line-requires
-    array-share-prefix-answer
-    slice-aggregate-place
-    place-requires
-    same-length
-    returns)
+place-answer-spec = tie.close (tie.spec (λ c. search needs) (λ c κs. search needs) array-share-prefix-answer slice-aggregate-place
+    (λ c κs. search needs) (λ c. search needs) returns)

@@ -11,9 +11,6 @@ use borrow.Author.Needs.{needs}
 use Rattle.router_line.proofs.line.put_done.Statement.{statement}
 use Rattle.router_line.proofs.line.put_done.Tie as tie
 
-slice-write-dst : tie.Need-slice-write-dst
-slice-write-dst c = search needs
-
 slice-write-dst-2 : tie.Need-slice-write-dst-2
 slice-write-dst-2 c = omega (arith, c .before .before .pre, length-set (c .before .before .args .dst .now) 0 48)
 
@@ -30,9 +27,6 @@ written c = wrote-then (wrote-then (wrote-one 48) (wrote-one 9)) (c .put .ensure
 slice-write-dst-3 : tie.Need-slice-write-dst-3
 slice-write-dst-3 c = omega (arith, c .before .before .before .before .before .before .pre, written (c .before .before) .moved, wrote-length (written (c .before .before)))
 
-add-result : tie.Need-add-result
-add-result c = search needs
-
 same-length : tie.Need-same-length
 same-length c = length-set (c .before .before .put .last .0) (c .before .before .put .result) 10 ∙ wrote-length (written (c .before .before))
 
@@ -41,13 +35,4 @@ unfolding doneLine
 returns c = wrote-then (written (c .before .before)) (wrote-one 10)
 
 pub put-done-spec : {M : Type 1} → statement M
-put-done-spec =
-    tie.close
-    (tie.spec
-    slice-write-dst
-    slice-write-dst-2
-    put-requires
-    slice-write-dst-3
-    add-result
-    same-length
-    returns)
+put-done-spec = tie.close (tie.spec (λ c. search needs) slice-write-dst-2 put-requires slice-write-dst-3 (λ c. search needs) same-length returns)

@@ -17,12 +17,6 @@ use borrow.Author.Needs.{needs}
 use Rattle.router_line.proofs.line.put_record.Statement.{statement}
 use Rattle.router_line.proofs.line.put_record.Tie as tie
 
-slice-write-dst : tie.Need-slice-write-dst
-slice-write-dst c = search needs
-
-slice-write-dst-2 : tie.Need-slice-write-dst-2
-slice-write-dst-2 c = search needs
-
 write-text-requires : tie.Need-write-text-requires
 write-text-requires c κs =
     let s = c .before .before in
@@ -56,13 +50,4 @@ unfolding doneLine
 returns c = wrote-then (written (c .before .before)) (wrote-one 10)
 
 pub put-record-spec : {M : Type 1} → statement M
-put-record-spec =
-    tie.close
-    (tie.spec
-    slice-write-dst
-    slice-write-dst-2
-    write-text-requires
-    slice-write-dst-3
-    add-result
-    same-length
-    returns)
+put-record-spec = tie.close (tie.spec (λ c. search needs) (λ c. search needs) write-text-requires slice-write-dst-3 add-result same-length returns)

@@ -7,25 +7,10 @@ use borrow.Author.Needs.{needs}
 use Rattle.router_line.proofs.line.put_refusal.Statement.{statement}
 use Rattle.router_line.proofs.line.put_refusal.Tie as tie
 
-cast-dst : tie.Need-cast-dst
-cast-dst c = search needs
-
-add-dst : tie.Need-add-dst
-add-dst c = search needs
-
-slice-write-dst : tie.Need-slice-write-dst
-slice-write-dst c = search needs
-
-slice-write-dst-2 : tie.Need-slice-write-dst-2
-slice-write-dst-2 c = search needs
-
-same-length : tie.Need-same-length
-same-length c = search needs
-
 returns : tie.Need-returns
 unfolding refusedLine
 returns c = wrote-then (wrote-one (48 + c .args .number)) (wrote-one 10)
 
 pub put-refusal-spec : {M : Type 1} → statement M
 put-refusal-spec =
-    tie.close (tie.spec cast-dst add-dst slice-write-dst slice-write-dst-2 same-length returns)
+    tie.close (tie.spec (λ c. search needs) (λ c. search needs) (λ c. search needs) (λ c. search needs) (λ c. search needs) returns)

@@ -17,15 +17,6 @@ use borrow.Author.Needs.{needs}
 use Rattle.router_line.proofs.line.send_record.Statement.{statement}
 use Rattle.router_line.proofs.line.send_record.Tie as tie
 
-is-canonical-requires : tie.Need-is-canonical-requires
-is-canonical-requires c κs = search needs
-
-put-refusal-requires : tie.Need-put-refusal-requires
-put-refusal-requires c κs = search needs
-
-same-length : tie.Need-same-length
-same-length c = search needs
-
 returns : tie.Need-returns
 returns c =
     let i = c .before .before .before .before in
@@ -35,9 +26,6 @@ returns c =
     (sent-not t (a .rec) (sym (i .before .is-canonical .ensures) ∙ not-true (i .before .is-canonical .result) (i .if1 .taken)))
     (c .before .before .put-refusal .ensures)
 
-slice-aggregate-write-address : tie.Need-slice-aggregate-write-address
-slice-aggregate-write-address c = search needs
-
 -- the record is canonical
 good : (c : tie.Else1) → canonicalRecord (c .before .before .before .before .before .args .rec) ≡ true
 good c = sym (c .before .is-canonical .ensures) ∙ not-false (c .before .is-canonical .result) (c .if1 .left)
@@ -46,9 +34,6 @@ write-address-requires : tie.Need-write-address-requires
 write-address-requires c κs =
     let start = c .before .before .before .before .before .before in
     (refl, (start .pre .0, (start .pre .1 .0, good (c .before))))
-
-enum-known-n : tie.Need-enum-known-n
-enum-known-n c = search needs
 
 -- the address that was written
 written : (c : tie.After-n) → let w = c .before .before .before in
@@ -71,15 +56,6 @@ put-done-requires c κs =
     let start = w .before .before .before .before .before .before .before in
     omega (arith, length-take-le (n .n .given .0 .0) (w .write-address .last .0) (written n .fits), written n .fits, w .write-address .kept .0, start .pre .1 .1)
 
-enum-told : tie.Need-enum-told
-enum-told c = search needs
-
-put-refusal-requires-2 : tie.Need-put-refusal-requires-2
-put-refusal-requires-2 c κs = search needs
-
-same-length-2 : tie.Need-same-length-2
-same-length-2 c = search needs
-
 returns-2 : tie.Need-returns-2
 returns-2 c =
     let n = c .before .before .before .before .before .before in
@@ -88,9 +64,6 @@ returns-2 c =
     let t = outward (a .text .now) (a .to-domain .now) (a .table) in
     let s = take (n .n .given .0 .0) (w .write-address .last .0) in
     wrote-as (doneLine s) (readLine t (read (a .rec))) (sent-done t (a .rec) s (good (w .before .before)) (written n .told)) (c .before .before .put-done .ensures)
-
-same-length-3 : tie.Need-same-length-3
-same-length-3 c = search needs
 
 returns-3 : tie.Need-returns-3
 returns-3 c =
@@ -102,22 +75,6 @@ returns-3 c =
     (c .before .before .put-refusal2 .ensures)
 
 pub send-record-spec : {M : Type 1} → statement M
-send-record-spec =
-    tie.close
-    (tie.spec
-    is-canonical-requires
-    put-refusal-requires
-    same-length
-    returns
-    slice-aggregate-write-address
-    write-address-requires
-    enum-known-n
-    array-share-prefix-address
-    slice-aggregate-put-done
-    put-done-requires
-    enum-told
-    put-refusal-requires-2
-    same-length-2
-    returns-2
-    same-length-3
-    returns-3)
+send-record-spec = tie.close (tie.spec (λ c κs. search needs) (λ c κs. search needs) (λ c. search needs) returns (λ c. search needs)
+    write-address-requires (λ c. search needs) array-share-prefix-address slice-aggregate-put-done put-done-requires (λ c. search needs)
+    (λ c κs. search needs) (λ c. search needs) returns-2 (λ c. search needs) returns-3)

@@ -74,17 +74,5 @@ returns-2 c =
     subst (λ (x : TableOutcome). Demand3 x (record { number = 7; line = line .0 .0; record' = c .empty .result })) e (record { number = refl; line = refl; empty = c .empty .ensures })
 
 pub check-spec : {M : Type 1} → statement M
-check-spec =
-    tie.close
-    (tie.spec
-    slice-aggregate-load
-    slice-aggregate-load-2
-    load-requires
-    enum-known-t
-    slice-aggregate-check-loaded
-    slice-aggregate-check-loaded-2
-    check-loaded-requires
-    enum-known-line
-    empty-requires
-    returns
-    returns-2)
+check-spec = tie.close (tie.spec slice-aggregate-load slice-aggregate-load-2 load-requires enum-known-t slice-aggregate-check-loaded
+    slice-aggregate-check-loaded-2 check-loaded-requires enum-known-line empty-requires returns returns-2)

@@ -11,12 +11,6 @@ use borrow.Author.Needs.{needs}
 use Rattle.soundness_check.proofs.check.check_loaded.Statement.{statement}
 use Rattle.soundness_check.proofs.check.check_loaded.Tie as tie
 
-judge-rows-requires : tie.Need-judge-rows-requires
-judge-rows-requires c κs = search needs
-
-is-sound-requires : tie.Need-is-sound-requires
-is-sound-requires c κs = search needs
-
 returns : tie.Need-returns
 returns c =
     let at = c .before .before in
@@ -25,9 +19,6 @@ returns c =
     judged-found t (AllFirst t) (Sound t) (at .judge-rows .result .answer) (at .judge-rows .result .«record»)
     (failed (c .before .is-sound .ensures) (c .if1 .taken))
     (at .judge-rows .ensures)
-
-judge-pairs-requires : tie.Need-judge-pairs-requires
-judge-pairs-requires c κs = search needs
 
 returns-2 : tie.Need-returns-2
 returns-2 c =
@@ -46,4 +37,4 @@ returns-2 c =
 pub check-loaded-spec : {M : Type 1} → statement M
 check-loaded-spec =
     tie.close
-    (tie.spec judge-rows-requires is-sound-requires returns judge-pairs-requires returns-2)
+    (tie.spec (λ c κs. search needs) (λ c κs. search needs) returns (λ c κs. search needs) returns-2)

@@ -40,9 +40,6 @@ judge-under-requires c κs =
       },
     )
 
-is-sound-requires : tie.Need-is-sound-requires Inv-loop μ-loop
-is-sound-requires c κs = search needs
-
 returns : tie.Need-returns Inv-loop μ-loop
 returns c =
     let at = c .before .before in
@@ -51,12 +48,6 @@ returns c =
     judged-found t (AllUnder t (rowAt (a .text .now) (at .before .row-at .result))) (AllSecond t) (at .judge-under .result .answer) (at .judge-under .result .«record»)
     (failed (c .before .is-sound .ensures) (c .if2 .taken))
     (at .judge-under .ensures)
-
-add-i : tie.Need-add-i Inv-loop μ-loop
-add-i c = omega arith
-
-loop-less : tie.Need-loop-less Inv-loop μ-loop
-loop-less c = omega arith
 
 loop-again : tie.Need-loop-again Inv-loop μ-loop
 loop-again c =
@@ -73,9 +64,6 @@ loop-again c =
           (rw (at .before .row-at .ensures) at u),
     )
 
-sound-requires : tie.Need-sound-requires Inv-loop μ-loop
-sound-requires c κs = search needs
-
 returns-2 : tie.Need-returns-2 Inv-loop μ-loop
 returns-2 c =
     let a = c .before .before .before .before .before .before .before .args in
@@ -84,18 +72,5 @@ returns-2 c =
     (each-domain (a .text .now) (a .to-path .now) (a .to-domain .now) (a .table) (AllUnder t) (λ i l. c .before .before .before .loop .inv .1 i (omega arith)))
 
 pub judge-pairs-spec : {M : Type 1} → statement M
-judge-pairs-spec =
-    tie.close
-    (tie.spec
-    Inv-loop
-    μ-loop
-    loop-holds
-    row-at-requires
-    judge-under-requires
-    is-sound-requires
-    returns
-    add-i
-    loop-less
-    loop-again
-    sound-requires
-    returns-2)
+judge-pairs-spec = tie.close (tie.spec Inv-loop μ-loop loop-holds row-at-requires judge-under-requires (λ c κs. search needs) returns
+    (λ c. omega arith) (λ c. omega arith) loop-again (λ c κs. search needs) returns-2)

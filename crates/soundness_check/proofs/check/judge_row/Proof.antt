@@ -112,17 +112,5 @@ returns-5 c =
     (done .ensures)
 
 pub judge-row-spec : {M : Type 1} → statement M
-judge-row-spec =
-    tie.close
-    (tie.spec
-    count-levels-requires
-    judge-fresh-requires
-    returns
-    judge-plain-requires
-    is-sound-requires
-    returns-2
-    returns-3
-    level-span-requires
-    returns-4
-    judge-fresh-requires-2
-    returns-5)
+judge-row-spec = tie.close (tie.spec count-levels-requires judge-fresh-requires returns judge-plain-requires is-sound-requires returns-2 returns-3
+    level-span-requires returns-4 judge-fresh-requires-2 returns-5)

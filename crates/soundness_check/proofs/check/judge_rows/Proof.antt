@@ -90,18 +90,5 @@ returns-2 c =
     (each-domain (a .text .now) (a .to-path .now) (a .to-domain .now) (a .table) (FirstBack t) (λ i h. l .inv .1 i (omega arith)))
 
 pub judge-rows-spec : {M : Type 1} → statement M
-judge-rows-spec =
-    tie.close
-    (tie.spec
-    Inv-loop
-    μ-loop
-    loop-holds
-    row-at-requires
-    judge-row-requires
-    is-sound-requires
-    returns
-    add-i
-    loop-less
-    loop-again
-    sound-requires
-    returns-2)
+judge-rows-spec = tie.close (tie.spec Inv-loop μ-loop loop-holds row-at-requires judge-row-requires is-sound-requires returns add-i loop-less
+    loop-again sound-requires returns-2)

@@ -163,27 +163,6 @@ returns-3 c =
     })
 
 pub judge-under-spec : {M : Type 1} → statement M
-judge-under-spec =
-    tie.close
-    (tie.spec
-    Inv-loop
-    μ-loop
-    sub-judge-pair
-    part-judge-pair-start
-    part-judge-pair-end
-    judge-pair-requires
-    is-sound-requires
-    returns
-    loop-holds
-    row-at-requires
-    sub-judge-pair-2
-    part-judge-pair-start-2
-    part-judge-pair-end-2
-    judge-pair-requires-2
-    is-sound-requires-2
-    returns-2
-    add-i
-    loop-less
-    loop-again
-    sound-requires
-    returns-3)
+judge-under-spec = tie.close (tie.spec Inv-loop μ-loop sub-judge-pair part-judge-pair-start part-judge-pair-end judge-pair-requires is-sound-requires
+    returns loop-holds row-at-requires sub-judge-pair-2 part-judge-pair-start-2 part-judge-pair-end-2 judge-pair-requires-2 is-sound-requires-2
+    returns-2 add-i loop-less loop-again sound-requires returns-3)

@@ -9,15 +9,6 @@ use Rattle.soundness.proofs.Laws.Marks.{fold-at}
 use Rattle.soundness_fresh.proofs.fresh.digit_at.Statement.{statement}
 use Rattle.soundness_fresh.proofs.fresh.digit_at.Tie as tie
 
-byte-at-requires : tie.Need-byte-at-requires
-byte-at-requires c κs = search needs
-
-fold-case-requires : tie.Need-fold-case-requires
-fold-case-requires c κs = search needs
-
-wide-requires : tie.Need-wide-requires
-wide-requires c κs = search needs
-
 -- the byte that is read
 folded : (c : tie.After-wide) → let a = c .before .before .before .before .args in
     c .wide .result ≡ getD (foldText (a .token .now)) (a .i) 0
@@ -33,4 +24,4 @@ returns-2 c = (omega (arith, folded (c .before)), omega (arith, c .before .wide 
 
 pub digit-at-spec : {M : Type 1} → statement M
 digit-at-spec =
-    tie.close (tie.spec byte-at-requires fold-case-requires wide-requires returns returns-2)
+    tie.close (tie.spec (λ c κs. search needs) (λ c κs. search needs) (λ c κs. search needs) returns returns-2)

@@ -45,15 +45,4 @@ returns-2 c =
     omega (arith, at .loop .inv .1, free-none (at .before .args .marks .now) (at .loop .i) (omega arith))
 
 pub first-free-spec : {M : Type 1} → statement M
-first-free-spec =
-    tie.close
-    (tie.spec
-    Inv-loop
-    μ-loop
-    loop-holds
-    shared-slice-read-if1
-    returns
-    add-i
-    loop-less
-    loop-again
-    returns-2)
+first-free-spec = tie.close (tie.spec Inv-loop μ-loop loop-holds shared-slice-read-if1 returns add-i loop-less loop-again returns-2)

@@ -11,24 +11,6 @@ use Rattle.soundness.proofs.Laws.Marks.{free-fresh}
 use Rattle.soundness_fresh.proofs.fresh.free_number.Statement.{statement}
 use Rattle.soundness_fresh.proofs.fresh.free_number.Tie as tie
 
-slice-aggregate-mark-paths : tie.Need-slice-aggregate-mark-paths
-slice-aggregate-mark-paths c = search needs
-
-mark-paths-requires : tie.Need-mark-paths-requires
-mark-paths-requires c κs = search needs
-
-slice-aggregate-mark-domains : tie.Need-slice-aggregate-mark-domains
-slice-aggregate-mark-domains c = search needs
-
-mark-domains-requires : tie.Need-mark-domains-requires
-mark-domains-requires c κs = search needs
-
-slice-aggregate-first-free : tie.Need-slice-aggregate-first-free
-slice-aggregate-first-free c = search needs
-
-first-free-requires : tie.Need-first-free-requires
-first-free-requires c κs = search needs
-
 returns : tie.Need-returns
 returns c =
     let start = c .before .before .before .before .before .before .before .before .before .before .before in
@@ -39,13 +21,5 @@ returns c =
     ∙ free-fresh (a .text .now) (a .to-path .now) (a .to-domain .now) (a .table) (a .row) (a .levels) (a .parts) (start .pre .1 .0) (start .pre .1 .1)
 
 pub free-number-spec : {M : Type 1} → statement M
-free-number-spec =
-    tie.close
-    (tie.spec
-    slice-aggregate-mark-paths
-    mark-paths-requires
-    slice-aggregate-mark-domains
-    mark-domains-requires
-    slice-aggregate-first-free
-    first-free-requires
-    returns)
+free-number-spec = tie.close (tie.spec (λ c. search needs) (λ c κs. search needs) (λ c. search needs) (λ c κs. search needs) (λ c. search needs)
+    (λ c κs. search needs) returns)

@@ -10,27 +10,6 @@ use Rattle.soundness.proofs.Laws.Marks.{number-at}
 use Rattle.soundness_fresh.proofs.fresh.mark_domain.Statement.{statement}
 use Rattle.soundness_fresh.proofs.fresh.mark_domain.Tie as tie
 
-part-span-requires : tie.Need-part-span-requires
-part-span-requires c κs = search needs
-
-add-b : tie.Need-add-b
-add-b c = search needs
-
-sub-mark : tie.Need-sub-mark
-sub-mark c = search needs
-
-part-mark-start : tie.Need-part-mark-start
-part-mark-start c = search needs
-
-part-mark-end : tie.Need-part-mark-end
-part-mark-end c = search needs
-
-mark-requires : tie.Need-mark-requires
-mark-requires c κs = search needs
-
-same-length : tie.Need-same-length
-same-length c = search needs
-
 returns : tie.Need-returns
 returns c =
     let a = c .before .before .before .before .before .before .before .before .before .args in
@@ -41,14 +20,5 @@ returns c =
     (number-at (a .domain .now) (span .start) (span .start + span .len) (span .len) (partsOf (a .domain .now)) (a .k) refl (part .ensures .1))
 
 pub mark-domain-spec : {M : Type 1} → statement M
-mark-domain-spec =
-    tie.close
-    (tie.spec
-    part-span-requires
-    add-b
-    sub-mark
-    part-mark-start
-    part-mark-end
-    mark-requires
-    same-length
-    returns)
+mark-domain-spec = tie.close (tie.spec (λ c κs. search needs) (λ c. search needs) (λ c. search needs) (λ c. search needs) (λ c. search needs)
+    (λ c κs. search needs) (λ c. search needs) returns)

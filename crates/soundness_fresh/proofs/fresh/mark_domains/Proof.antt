@@ -51,12 +51,6 @@ part-mark-domain-end c = let p = inside (c .before) in omega (arith, p .apart, p
 mark-domain-requires : tie.Need-mark-domain-requires Inv-loop μ-loop
 mark-domain-requires c κs = tt
 
-add-i : tie.Need-add-i Inv-loop μ-loop
-add-i c = omega arith
-
-loop-less : tie.Need-loop-less Inv-loop μ-loop
-loop-less c = omega arith
-
 loop-again : tie.Need-loop-again Inv-loop μ-loop
 unfolding rowAt between
 loop-again c =
@@ -82,19 +76,5 @@ returns c =
     sym (l .inv .2 ∙ marks-end pathRow (a .k) (a .text .now) (a .rows .now) (a .n) (l .marks) (l .i) (omega arith))
 
 pub mark-domains-spec : {M : Type 1} → statement M
-mark-domains-spec =
-    tie.close
-    (tie.spec
-    Inv-loop
-    μ-loop
-    loop-holds
-    row-at-requires
-    sub-mark-domain
-    part-mark-domain-start
-    part-mark-domain-end
-    mark-domain-requires
-    add-i
-    loop-less
-    loop-again
-    same-length
-    returns)
+mark-domains-spec = tie.close (tie.spec Inv-loop μ-loop loop-holds row-at-requires sub-mark-domain part-mark-domain-start part-mark-domain-end
+    mark-domain-requires (λ c. omega arith) (λ c. omega arith) loop-again same-length returns)

@@ -44,23 +44,11 @@ level-span-requires c κs = inside c .within
 add-b : tie.Need-add-b Inv-loop μ-loop
 add-b c = omega (arith, c .before .level-span .ensures .0)
 
-sub-mark : tie.Need-sub-mark Inv-loop μ-loop
-sub-mark c = omega arith
-
-part-mark-start : tie.Need-part-mark-start Inv-loop μ-loop
-part-mark-start c = omega arith
-
 part-mark-end : tie.Need-part-mark-end Inv-loop μ-loop
 part-mark-end c = omega (arith, c .before .before .level-span .ensures .0)
 
 mark-requires : tie.Need-mark-requires Inv-loop μ-loop
 mark-requires c κs = tt
-
-add-i : tie.Need-add-i Inv-loop μ-loop
-add-i c = omega arith
-
-loop-less : tie.Need-loop-less Inv-loop μ-loop
-loop-less c = omega arith
 
 loop-again : tie.Need-loop-again Inv-loop μ-loop
 unfolding rowAt
@@ -92,21 +80,5 @@ returns c =
     sym (l .inv .2 ∙ marks-end domainRow (a .k) (a .text .now) (a .rows .now) (a .n) (l .marks) (l .i) (omega arith))
 
 pub mark-paths-spec : {M : Type 1} → statement M
-mark-paths-spec =
-    tie.close
-    (tie.spec
-    Inv-loop
-    μ-loop
-    loop-holds
-    row-at-requires
-    level-span-requires
-    add-b
-    sub-mark
-    part-mark-start
-    part-mark-end
-    mark-requires
-    add-i
-    loop-less
-    loop-again
-    same-length
-    returns)
+mark-paths-spec = tie.close (tie.spec Inv-loop μ-loop loop-holds row-at-requires level-span-requires add-b (λ c. omega arith) (λ c. omega arith)
+    part-mark-end mark-requires (λ c. omega arith) (λ c. omega arith) loop-again same-length returns)

@@ -6,23 +6,14 @@ use Rattle.soundness.specs.Labels.{labelNumber}
 use Rattle.soundness_fresh.proofs.fresh.number_of.Statement.{statement}
 use Rattle.soundness_fresh.proofs.fresh.number_of.Tie as tie
 
-digit-at-requires : tie.Need-digit-at-requires
-digit-at-requires c κs = search needs
-
 mul-result : tie.Need-mul-result
 mul-result c = omega (arith, c .digit-at .ensures .1)
-
-digit-at-requires-2 : tie.Need-digit-at-requires-2
-digit-at-requires-2 c κs = search needs
 
 mul-result-2 : tie.Need-mul-result-2
 mul-result-2 c = omega (arith, c .digit-at2 .ensures .1)
 
 add-result : tie.Need-add-result
 add-result c = omega (arith, c .before .digit-at .ensures .1, c .digit-at2 .ensures .1)
-
-digit-at-requires-3 : tie.Need-digit-at-requires-3
-digit-at-requires-3 c κs = search needs
 
 add-result-2 : tie.Need-add-result-2
 add-result-2 c = omega (arith, c .before .before .digit-at .ensures .1, c .before .digit-at2 .ensures .1, c .digit-at3 .ensures .1)
@@ -32,14 +23,5 @@ unfolding labelNumber
 returns c = omega (arith, c .before .before .digit-at .ensures .0, c .before .digit-at2 .ensures .0, c .digit-at3 .ensures .0)
 
 pub number-of-spec : {M : Type 1} → statement M
-number-of-spec =
-    tie.close
-    (tie.spec
-    digit-at-requires
-    mul-result
-    digit-at-requires-2
-    mul-result-2
-    add-result
-    digit-at-requires-3
-    add-result-2
-    returns)
+number-of-spec = tie.close (tie.spec (λ c κs. search needs) mul-result (λ c κs. search needs) mul-result-2 add-result (λ c κs. search needs)
+    add-result-2 returns)

@@ -24,9 +24,6 @@ loop-holds c =
     let a = c .before .args in
     (omega arith, ap (λ (d : List ℕ). getD (partsOf d) (a .k) []) (sym (take-length (a .domain .now))))
 
-part-start-requires : tie.Need-part-start-requires Inv-loop μ-loop
-part-start-requires c κs = omega arith
-
 -- the part that is read, and those before it
 module _ (c : tie.After-part-start Inv-loop μ-loop) where
   within : c .part-start .result ≤ c .before .loop .end
@@ -68,15 +65,6 @@ returns-2 c =
     let d = at .before .before .before .args .domain .now in
     (omega arith, sym (later at (c .before .if1 .left) ∙ ap (λ (ts : List Tok). getD ts (at .before .loop .i - 1) []) (left-none d (at .part-start .result) (c .if2 .taken))))
 
-sub-end : tie.Need-sub-end Inv-loop μ-loop
-sub-end c = omega arith
-
-sub-i : tie.Need-sub-i Inv-loop μ-loop
-sub-i c = omega arith
-
-loop-less : tie.Need-loop-less Inv-loop μ-loop
-loop-less c = omega arith
-
 loop-again : tie.Need-loop-again Inv-loop μ-loop
 loop-again c =
     let at = c .before .before in
@@ -87,17 +75,5 @@ loop-again c =
     )
 
 pub part-span-spec : {M : Type 1} → statement M
-part-span-spec =
-    tie.close
-    (tie.spec
-    Inv-loop
-    μ-loop
-    loop-holds
-    part-start-requires
-    sub-t7
-    returns
-    returns-2
-    sub-end
-    sub-i
-    loop-less
-    loop-again)
+part-span-spec = tie.close (tie.spec Inv-loop μ-loop loop-holds (λ c κs. omega arith) sub-t7 returns returns-2 (λ c. omega arith) (λ c. omega arith)
+    (λ c. omega arith) loop-again)

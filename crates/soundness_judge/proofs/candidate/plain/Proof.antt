@@ -9,15 +9,6 @@ use borrow.Author.Needs.{needs}
 use Rattle.soundness_judge.proofs.candidate.plain.Statement.{statement}
 use Rattle.soundness_judge.proofs.candidate.plain.Tie as tie
 
-empty-requires : tie.Need-empty-requires
-empty-requires c κs = search needs
-
-add-path-requires : tie.Need-add-path-requires
-add-path-requires c κs = search needs
-
-with-surname-requires : tie.Need-with-surname-requires
-with-surname-requires c κs = search needs
-
 returns : tie.Need-returns
 unfolding candidateOf rowAt
 returns c =
@@ -28,4 +19,4 @@ returns c =
     ∙ ap withSurname (ap (λ o. o .record') (at .add-path .ensures) ∙ ap (λ (r : Record). addLevels 0 fs (begun r) .record') (at .before .empty .ensures))
 
 pub plain-spec : {M : Type 1} → statement M
-plain-spec = tie.close (tie.spec empty-requires add-path-requires with-surname-requires returns)
+plain-spec = tie.close (tie.spec (λ c κs. search needs) (λ c κs. search needs) (λ c κs. search needs) returns)

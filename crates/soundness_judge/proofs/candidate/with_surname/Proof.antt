@@ -6,15 +6,9 @@ use borrow.Author.Needs.{needs}
 use Rattle.soundness_judge.proofs.candidate.with_surname.Statement.{statement}
 use Rattle.soundness_judge.proofs.candidate.with_surname.Tie as tie
 
-slice-aggregate-with-single : tie.Need-slice-aggregate-with-single
-slice-aggregate-with-single c = search needs
-
-with-single-requires : tie.Need-with-single-requires
-with-single-requires c κs = search needs
-
 returns : tie.Need-returns
 unfolding withSurname
 returns c = ap (λ o. o .record') (c .before .with-single .ensures)
 
 pub with-surname-spec : {M : Type 1} → statement M
-with-surname-spec = tie.close (tie.spec slice-aggregate-with-single with-single-requires returns)
+with-surname-spec = tie.close (tie.spec (λ c. search needs) (λ c κs. search needs) returns)

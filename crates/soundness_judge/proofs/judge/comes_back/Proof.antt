@@ -19,15 +19,6 @@ use borrow.Author.Needs.{needs}
 use Rattle.soundness_judge.proofs.judge.comes_back.Statement.{statement}
 use Rattle.soundness_judge.proofs.judge.comes_back.Tie as tie
 
-slice-aggregate-map-record : tie.Need-slice-aggregate-map-record
-slice-aggregate-map-record c = search needs
-
-map-record-requires : tie.Need-map-record-requires
-map-record-requires c κs = search needs
-
-enum-told : tie.Need-enum-told
-enum-told c = search needs
-
 -- what record to address told, under the table
 told : (c : tie.After-map-record) → let a = c .before .before .before .before .before .args in
     toldAddress (c .map-record .result) (c .map-record .last .1 .1 .1 .1 .0) ≡ toAddress (tableAt (a .text .now) (a .to-path .now) (a .to-domain .now) (a .table)) (a .rec) (replicate addressRoom 0)
@@ -55,21 +46,6 @@ slice-aggregate-is-back : tie.Need-slice-aggregate-is-back
 slice-aggregate-is-back c =
     let m = c .before .before .before .before .map-record in
     sym (length-take-le (m .result .size) (m .last .1 .1 .1 .1 .0) (written (c .before) .1))
-
-is-back-requires : tie.Need-is-back-requires
-is-back-requires c κs = search needs
-
-enum-told-2 : tie.Need-enum-told-2
-enum-told-2 c = search needs
-
-enum-told-3 : tie.Need-enum-told-3
-enum-told-3 c = search needs
-
-enum-told-4 : tie.Need-enum-told-4
-enum-told-4 c = search needs
-
-enum-told-5 : tie.Need-enum-told-5
-enum-told-5 c = search needs
 
 returns : tie.Need-returns
 unfolding comesBack
@@ -103,21 +79,6 @@ unfolding addressNumber
 returns-5 c = other (c .before .before .before) (ap (λ (x : AddressAnswer). eqb (addressNumber x) 0) (c .enum-told5 .given .1))
 
 pub comes-back-spec : {M : Type 1} → statement M
-comes-back-spec =
-    tie.close
-    (tie.spec
-    slice-aggregate-map-record
-    map-record-requires
-    enum-told
-    array-share-prefix-out
-    slice-aggregate-is-back
-    is-back-requires
-    enum-told-2
-    enum-told-3
-    enum-told-4
-    enum-told-5
-    returns
-    returns-2
-    returns-3
-    returns-4
+comes-back-spec = tie.close (tie.spec (λ c. search needs) (λ c κs. search needs) (λ c. search needs) array-share-prefix-out slice-aggregate-is-back
+    (λ c κs. search needs) (λ c. search needs) (λ c. search needs) (λ c. search needs) (λ c. search needs) returns returns-2 returns-3 returns-4
     returns-5)

@@ -80,18 +80,5 @@ unfolding recordNumber
 returns-5 c = other (c .before .before .before) (ap (λ (x : RecordAnswer). eqb (recordNumber x) 0) (c .enum-told5 .given .1))
 
 pub is-back-spec : {M : Type 1} → statement M
-is-back-spec =
-    tie.close
-    (tie.spec
-    map-address-requires
-    enum-told
-    same-record-requires
-    enum-told-2
-    enum-told-3
-    enum-told-4
-    enum-told-5
-    returns
-    returns-2
-    returns-3
-    returns-4
-    returns-5)
+is-back-spec = tie.close (tie.spec map-address-requires enum-told same-record-requires enum-told-2 enum-told-3 enum-told-4 enum-told-5 returns
+    returns-2 returns-3 returns-4 returns-5)

@@ -131,21 +131,6 @@ returns-2 c =
     (c .judge2 .ensures)
 
 pub judge-fresh-spec : {M : Type 1} → statement M
-judge-fresh-spec =
-    tie.close
-    (tie.spec
-    sub-count-parts
-    part-count-parts-start
-    part-count-parts-end
-    count-parts-requires
-    free-number-requires
-    odd-label-requires
-    slice-aggregate-with-token
-    with-token-requires
-    judge-requires
-    returns
-    array-share-prefix-bytes
-    slice-aggregate-with-token-2
-    with-token-requires-2
-    judge-requires-2
-    returns-2)
+judge-fresh-spec = tie.close (tie.spec sub-count-parts part-count-parts-start part-count-parts-end count-parts-requires free-number-requires
+    odd-label-requires slice-aggregate-with-token with-token-requires judge-requires returns array-share-prefix-bytes slice-aggregate-with-token-2
+    with-token-requires-2 judge-requires-2 returns-2)

@@ -28,12 +28,6 @@ use borrow.Author.Needs.{needs}
 use Rattle.soundness_judge.proofs.judge.judge_pair.Statement.{statement}
 use Rattle.soundness_judge.proofs.judge.judge_pair.Tie as tie
 
-sub-if1 : tie.Need-sub-if1
-sub-if1 c = search needs
-
-sound-requires : tie.Need-sound-requires
-sound-requires c κs = search needs
-
 returns : tie.Need-returns
 returns c =
     let start = c .before .before .before .before .before .before in
@@ -44,12 +38,6 @@ returns c =
     judged-sound t (SecondBack t r d) (c .sound .result) (c .sound .ensures)
     (second-short t r d (omega (arith, row-length (a .text .now) (a .row) (start .pre .1 .0 .inside))))
 
-is-tail-requires : tie.Need-is-tail-requires
-is-tail-requires c κs = search needs
-
-sound-requires-2 : tie.Need-sound-requires-2
-sound-requires-2 c κs = search needs
-
 returns-2 : tie.Need-returns-2
 unfolding rowAt
 returns-2 c =
@@ -58,15 +46,6 @@ returns-2 c =
     let r : Row = rowAt (a .text .now) (a .row) in
     let d : List ℕ = a .domain .now in
     judged-sound t (SecondBack t r d) (c .sound2 .result) (c .sound2 .ensures) (second-none t r d (failed (c .before .before .is-tail .ensures) (c .before .if2 .taken)))
-
-settle-row-requires : tie.Need-settle-row-requires
-settle-row-requires c κs = search needs
-
-enum-told : tie.Need-enum-told
-enum-told c = search needs
-
-with-surname-requires : tie.Need-with-surname-requires
-with-surname-requires c κs = search needs
 
 -- the parts left of the domain
 cut : (c : tie.After-settle-row) → let a = c .before .before .before .before .before .before .before .before .args in
@@ -101,24 +80,6 @@ judge-requires c κs =
     let k = second-candidate t (start .pre .0 .formed) r (start .pre .1 .0 .member) d (start .pre .1 .1) left (cut at) n q h in
     let e : c .with-surname .result ≡ candidateOf (r .path ++ left) = c .with-surname .ensures ∙ second-named t (start .pre .0 .formed) r (start .pre .1 .0 .member) d (start .pre .1 .1) left (cut at) n q h in
     (start .pre .0, (ap canonicalRecord e ∙ k .canonical, ap (λ (x : Record). isCarrier t (view x)) e ∙ k .free))
-
-enum-told-2 : tie.Need-enum-told-2
-enum-told-2 c = search needs
-
-sound-requires-3 : tie.Need-sound-requires-3
-sound-requires-3 c κs = search needs
-
-enum-told-3 : tie.Need-enum-told-3
-enum-told-3 c = search needs
-
-sound-requires-4 : tie.Need-sound-requires-4
-sound-requires-4 c κs = search needs
-
-enum-told-4 : tie.Need-enum-told-4
-enum-told-4 c = search needs
-
-sound-requires-5 : tie.Need-sound-requires-5
-sound-requires-5 c κs = search needs
 
 returns-3 : tie.Need-returns-3
 returns-3 c =
@@ -165,26 +126,6 @@ returns-6 c =
     (second-bound t (start .pre .0 .formed) r (start .pre .1 .0 .member) d (start .pre .1 .1) left (cut at) (comes at PastBound (c .before .enum-told4 .given .1)))
 
 pub judge-pair-spec : {M : Type 1} → statement M
-judge-pair-spec =
-    tie.close
-    (tie.spec
-    sub-if1
-    sound-requires
-    returns
-    is-tail-requires
-    sound-requires-2
-    returns-2
-    settle-row-requires
-    enum-told
-    with-surname-requires
-    judge-requires
-    enum-told-2
-    sound-requires-3
-    enum-told-3
-    sound-requires-4
-    enum-told-4
-    sound-requires-5
-    returns-3
-    returns-4
-    returns-5
-    returns-6)
+judge-pair-spec = tie.close (tie.spec (λ c. search needs) (λ c κs. search needs) returns (λ c κs. search needs) (λ c κs. search needs) returns-2
+    (λ c κs. search needs) (λ c. search needs) (λ c κs. search needs) judge-requires (λ c. search needs) (λ c κs. search needs) (λ c. search needs)
+    (λ c κs. search needs) (λ c. search needs) (λ c κs. search needs) returns-3 returns-4 returns-5 returns-6)

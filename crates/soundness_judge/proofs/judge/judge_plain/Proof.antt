@@ -14,9 +14,6 @@ use Rattle.soundness.proofs.Laws.Judged.{judged-then}
 use Rattle.soundness_judge.proofs.judge.judge_plain.Statement.{statement}
 use Rattle.soundness_judge.proofs.judge.judge_plain.Tie as tie
 
-plain-requires : tie.Need-plain-requires
-plain-requires c κs = search needs
-
 judge-requires : tie.Need-judge-requires
 judge-requires c κs =
     let start = c .before .before .before .before in
@@ -38,4 +35,4 @@ returns c =
     (c .judge .ensures)
 
 pub judge-plain-spec : {M : Type 1} → statement M
-judge-plain-spec = tie.close (tie.spec plain-requires judge-requires returns)
+judge-plain-spec = tie.close (tie.spec (λ c κs. search needs) judge-requires returns)

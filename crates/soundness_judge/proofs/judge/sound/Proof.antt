@@ -5,11 +5,8 @@ use borrow.Author.Needs.{needs}
 use Rattle.soundness_judge.proofs.judge.sound.Statement.{statement}
 use Rattle.soundness_judge.proofs.judge.sound.Tie as tie
 
-empty-requires : tie.Need-empty-requires
-empty-requires c κs = search needs
-
 returns : tie.Need-returns
 returns c = (refl, c .empty .ensures)
 
 pub sound-spec : {M : Type 1} → statement M
-sound-spec = tie.close (tie.spec empty-requires returns)
+sound-spec = tie.close (tie.spec (λ c κs. search needs) returns)

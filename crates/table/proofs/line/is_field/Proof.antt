@@ -12,16 +12,10 @@ returns c =
     let a = c .before .before .args in
     sym (field-empty (a .k) (a .s .now) (omega arith))
 
-keeps-rule-requires : tie.Need-keeps-rule-requires
-keeps-rule-requires c κs = search needs
-
 returns-2 : tie.Need-returns-2
 returns-2 c =
     let a = c .before .before .before .before .args in
     c .keeps-rule .ensures ∙ sym (field-own (a .k) (a .s .now) (omega arith) (omega arith))
-
-is-value-requires : tie.Need-is-value-requires
-is-value-requires c κs = search needs
 
 returns-3 : tie.Need-returns-3
 returns-3 c =
@@ -30,4 +24,4 @@ returns-3 c =
 
 pub is-field-spec : {M : Type 1} → statement M
 is-field-spec =
-    tie.close (tie.spec returns keeps-rule-requires returns-2 is-value-requires returns-3)
+    tie.close (tie.spec returns (λ c κs. search needs) returns-2 (λ c κs. search needs) returns-3)

@@ -16,9 +16,6 @@ slice-aggregate-part-end c =
     let a = c .before .before .args in
     sym (length-take-le (a .end) (a .text .now) (omega arith))
 
-part-end-requires : tie.Need-part-end-requires
-part-end-requires c κs = search needs
-
 first : (c : tie.After-part-end) → let a = c .before .before .before .args in
     fieldsAt (a .text .now) (a .at) (a .end) ≡ between (a .text .now) (a .at) (c .part-end .result) ∷ fieldsAt (a .text .now) (c .part-end .result + 1) (a .end)
 first c =
@@ -29,9 +26,6 @@ returns : tie.Need-returns
 returns c =
     let a = c .before .before .before .before .args in
     sym (path-one (first (c .before)) (fields-past (a .text .now) (c .before .part-end .result + 1) (a .end) (omega arith)))
-
-are-fields-requires : tie.Need-are-fields-requires
-are-fields-requires c κs = search needs
 
 returns-2 : tie.Need-returns-2
 returns-2 c =
@@ -44,4 +38,4 @@ returns-2 c =
 pub is-path-spec : {M : Type 1} → statement M
 is-path-spec =
     tie.close
-    (tie.spec slice-aggregate-part-end part-end-requires returns are-fields-requires returns-2)
+    (tie.spec slice-aggregate-part-end (λ c κs. search needs) returns (λ c κs. search needs) returns-2)

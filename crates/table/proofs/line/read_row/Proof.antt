@@ -18,44 +18,26 @@ use Rattle.table.proofs.Laws.Fields.{between-length, fields-past, line-
 use Rattle.table.proofs.line.read_row.Statement.{statement}
 use Rattle.table.proofs.line.read_row.Tie as tie
 
-add-if1 : tie.Need-add-if1
-add-if1 c = search needs
-
 returns : tie.Need-returns
 returns c =
     let a = c .before .before .args in
     let fs = split 9 (between (a .text .now) (a .from) (a .end)) in
     rw (row-short (a .most) (between (a .text .now) (a .from) (a .end)) (omega (arith, between-length (a .text .now) (a .from) (a .end) (omega arith) (omega arith))), and-false (hasTag (a .tag) fs))
 
-shared-slice-read-if2 : tie.Need-shared-slice-read-if2
-shared-slice-read-if2 c = search needs
-
 returns-2 : tie.Need-returns-2
 returns-2 c =
     let a = c .before .before .before .before .args in
     rw (line-untagged (a .text .now) (a .from) (a .end) (a .tag) (omega arith) (omega arith) (c .if2 .taken))
-
-add-if3 : tie.Need-add-if3
-add-if3 c = search needs
-
-shared-slice-read-if3 : tie.Need-shared-slice-read-if3
-shared-slice-read-if3 c = search needs
 
 returns-3 : tie.Need-returns-3
 returns-3 c =
     let a = c .before .before .before .before .before .before .args in
     rw (line-untabbed (a .text .now) (a .from) (a .end) (a .tag) (omega arith) (omega arith) (c .if3 .taken))
 
-add-domain : tie.Need-add-domain
-add-domain c = search needs
-
 slice-aggregate-part-end : tie.Need-slice-aggregate-part-end
 slice-aggregate-part-end c =
     let a = c .before .before .before .before .before .before .before .args in
     sym (length-take-le (a .end) (a .text .now) (omega arith))
-
-part-end-requires : tie.Need-part-end-requires
-part-end-requires c κs = search needs
 
 -- where the domain ends, the test of the line by its parts, and its row
 module _ (c : tie.After-part-end) where
@@ -90,25 +72,13 @@ returns-4 c =
     test (c .before)
     ∙ rw (fields-past (a .text .now) (stop + 1) (a .end) (omega arith), no-path, and-false (leb (stop - (a .from + 2)) (a .most) && isDomain (between (a .text .now) (a .from + 2) stop)))
 
-sub-if5 : tie.Need-sub-if5
-sub-if5 c = search needs
-
 returns-5 : tie.Need-returns-5
 returns-5 c =
     let a = c .before .before .before .before .before .before .before .before .before .before .args in
     test (c .before .before) ∙ rw (lt-leb (c .before .before .part-end .result - (a .from + 2)) (a .most) (c .if5 .taken))
 
-sub-is-domain : tie.Need-sub-is-domain
-sub-is-domain c = search needs
-
-part-is-domain-start : tie.Need-part-is-domain-start
-part-is-domain-start c = search needs
-
 part-is-domain-end : tie.Need-part-is-domain-end
 part-is-domain-end c = omega (arith, within (c .before .before))
-
-is-domain-requires : tie.Need-is-domain-requires
-is-domain-requires c κs = search needs
 
 returns-6 : tie.Need-returns-6
 unfolding between
@@ -157,29 +127,6 @@ returns-8 c =
     }
 
 pub read-row-spec : {M : Type 1} → statement M
-read-row-spec =
-    tie.close
-    (tie.spec
-    add-if1
-    returns
-    shared-slice-read-if2
-    returns-2
-    add-if3
-    shared-slice-read-if3
-    returns-3
-    add-domain
-    slice-aggregate-part-end
-    part-end-requires
-    returns-4
-    sub-if5
-    returns-5
-    sub-is-domain
-    part-is-domain-start
-    part-is-domain-end
-    is-domain-requires
-    returns-6
-    add-is-path
-    is-path-requires
-    returns-7
-    add-t8
-    returns-8)
+read-row-spec = tie.close (tie.spec (λ c. search needs) returns (λ c. search needs) returns-2 (λ c. search needs) (λ c. search needs) returns-3
+    (λ c. search needs) slice-aggregate-part-end (λ c κs. search needs) returns-4 (λ c. search needs) returns-5 (λ c. search needs)
+    (λ c. search needs) part-is-domain-end (λ c κs. search needs) returns-6 add-is-path is-path-requires returns-7 add-t8 returns-8)

@@ -12,19 +12,10 @@ use Rattle.table.proofs.Laws.Load.{accepts, adding-domain, adding-path,
 use Rattle.table.proofs.load.add_row.Statement.{statement}
 use Rattle.table.proofs.load.add_row.Tie as tie
 
-add-if1 : tie.Need-add-if1
-add-if1 c = search needs
-
 returns : tie.Need-returns
 returns c =
     let a = c .before .before .before .before .args in
     bad-full (a .text .now) (a .to-path .now) (a .to-domain .now) (a .table) (a .from) (a .end) (omega arith)
-
-read-row-requires : tie.Need-read-row-requires
-read-row-requires c κs = search needs
-
-enum-known-row : tie.Need-enum-known-row
-enum-known-row c = search needs
 
 -- the row of a D line, that a line is none, and the row of an R line
 found : (c : tie.After-row)
@@ -42,19 +33,10 @@ found-2 : (c : tie.After-row2)
     RowFound (a .text .now) (a .from) (a .end) 82 longestRowDomain (c .row2 .given .0 .0)
 found-2 c = rw (c .row2 .given .1) at (c .before .before .read-row2 .ensures)
 
-add-next : tie.Need-add-next
-add-next c = search needs
-
 add-if-new-requires : tie.Need-add-if-new-requires
 add-if-new-requires c κs =
     let p = c .before .before .before .before .before .before .before .before .before .pre in
     (omega arith, (p .0, (p .1 .1 .0 .paths, (p .1 .1 .0 .domainMarks, found-inside (found (c .before .before)) (p .1 .1 .1 .1) (omega arith)))))
-
-added-requires : tie.Need-added-requires
-added-requires c κs = search needs
-
-same-length : tie.Need-same-length
-same-length c = search needs
 
 returns-2 : tie.Need-returns-2
 returns-2 c =
@@ -67,31 +49,10 @@ returns-2 c =
     (start .pre .1 .1 .0) (omega arith) (start .pre .1 .1 .1 .1) (start .pre .0) (found row)
     (new .add-if-new .result) (new .add-if-new .ensures))
 
-enum-told : tie.Need-enum-told
-enum-told c = search needs
-
-read-row-requires-2 : tie.Need-read-row-requires-2
-read-row-requires-2 c κs = search needs
-
-enum-known-row-2 : tie.Need-enum-known-row-2
-enum-known-row-2 c = search needs
-
-add-next-2 : tie.Need-add-next-2
-add-next-2 c = search needs
-
 add-if-new-requires-2 : tie.Need-add-if-new-requires-2
 add-if-new-requires-2 c κs =
     let p = c .before .before .before .before .before .before .before .before .before .before .before .before .pre in
     (omega arith, (p .1 .0, (p .1 .1 .0 .domains, (p .1 .1 .0 .pathMarks, found-inside (found-2 (c .before .before)) (p .1 .1 .1 .1) (omega arith)))))
-
-added-requires-2 : tie.Need-added-requires-2
-added-requires-2 c κs = search needs
-
-enum-told-2 : tie.Need-enum-told-2
-enum-told-2 c = search needs
-
-same-length-2 : tie.Need-same-length-2
-same-length-2 c = search needs
 
 returns-3 : tie.Need-returns-3
 returns-3 c =
@@ -113,25 +74,6 @@ returns-4 c =
     (rw (c .enum-told2 .given .1) at (c .before .before .read-row2 .ensures))
 
 pub add-row-spec : {M : Type 1} → statement M
-add-row-spec =
-    tie.close
-    (tie.spec
-    add-if1
-    returns
-    read-row-requires
-    enum-known-row
-    add-next
-    add-if-new-requires
-    added-requires
-    same-length
-    returns-2
-    enum-told
-    read-row-requires-2
-    enum-known-row-2
-    add-next-2
-    add-if-new-requires-2
-    added-requires-2
-    enum-told-2
-    same-length-2
-    returns-3
-    returns-4)
+add-row-spec = tie.close (tie.spec (λ c. search needs) returns (λ c κs. search needs) (λ c. search needs) (λ c. search needs) add-if-new-requires
+    (λ c κs. search needs) (λ c. search needs) returns-2 (λ c. search needs) (λ c κs. search needs) (λ c. search needs) (λ c. search needs)
+    add-if-new-requires-2 (λ c κs. search needs) (λ c. search needs) (λ c. search needs) returns-3 returns-4)

@@ -78,18 +78,5 @@ returns-4 c =
     (loaded-bad s (omega arith) (part .result) (part .ensures) (ends went) (rw (c .enum-told .given .1) at (c .before .before .read-row .ensures)))
 
 pub load-spec : {M : Type 1} → statement M
-load-spec =
-    tie.close
-    (tie.spec
-    returns
-    part-end-requires
-    returns-2
-    read-row-requires
-    enum-known-gateway
-    add-load-rows
-    load-rows-requires
-    enum-told
-    same-length
-    same-length-2
-    returns-3
-    returns-4)
+load-spec = tie.close (tie.spec returns part-end-requires returns-2 read-row-requires enum-known-gateway add-load-rows load-rows-requires enum-told
+    same-length same-length-2 returns-3 returns-4)

@@ -125,26 +125,5 @@ returns-3 : tie.Need-returns-3 Inv-loop μ-loop
 returns-3 c = progress-end (c .before .loop .inv .2) (omega arith)
 
 pub load-rows-spec : {M : Type 1} → statement M
-load-rows-spec =
-    tie.close
-    (tie.spec
-    Inv-loop
-    μ-loop
-    loop-holds
-    part-end-requires
-    same-length
-    same-length-2
-    returns
-    add-row-requires
-    enum-known-next
-    enum-told
-    same-length-3
-    same-length-4
-    returns-2
-    add-at
-    add-line
-    loop-less
-    loop-again
-    same-length-5
-    same-length-6
-    returns-3)
+load-rows-spec = tie.close (tie.spec Inv-loop μ-loop loop-holds part-end-requires same-length same-length-2 returns add-row-requires enum-known-next
+    enum-told same-length-3 same-length-4 returns-2 add-at add-line loop-less loop-again same-length-5 same-length-6 returns-3)

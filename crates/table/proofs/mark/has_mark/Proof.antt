@@ -34,21 +34,6 @@ one-more false false rest = refl
 loop-holds : tie.Need-loop-holds Inv-loop μ-loop
 loop-holds c = (omega arith, refl)
 
-mul-either : tie.Need-mul-either Inv-loop μ-loop
-mul-either c = search needs
-
-shared-slice-read-either : tie.Need-shared-slice-read-either Inv-loop μ-loop
-shared-slice-read-either c = omega arith
-
-either-requires : tie.Need-either-requires Inv-loop μ-loop
-either-requires c κs = search needs
-
-add-i : tie.Need-add-i Inv-loop μ-loop
-add-i c = omega arith
-
-loop-less : tie.Need-loop-less Inv-loop μ-loop
-loop-less c = omega arith
-
 loop-again : tie.Need-loop-again Inv-loop μ-loop
 loop-again c =
     let at = c .before .before .before in
@@ -68,16 +53,5 @@ returns c =
     sym (at .loop .inv .1 ∙ rw (all-end (differs (a .mark)) (a .marks .now) (at .loop .i) (omega arith)) (or-false (at .loop .found)))
 
 pub has-mark-spec : {M : Type 1} → statement M
-has-mark-spec =
-    tie.close
-    (tie.spec
-    Inv-loop
-    μ-loop
-    loop-holds
-    mul-either
-    shared-slice-read-either
-    either-requires
-    add-i
-    loop-less
-    loop-again
-    returns)
+has-mark-spec = tie.close (tie.spec Inv-loop μ-loop loop-holds (λ c. search needs) (λ c. omega arith) (λ c κs. search needs) (λ c. omega arith)
+    (λ c. omega arith) loop-again returns)

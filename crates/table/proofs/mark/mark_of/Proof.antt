@@ -22,27 +22,6 @@ loop-holds : tie.Need-loop-holds Inv-loop μ-loop
 unfolding markOf
 loop-holds c = (omega arith, omega arith, refl)
 
-mul-mark : tie.Need-mul-mark Inv-loop μ-loop
-mul-mark c = omega arith
-
-shared-slice-read-fold-case : tie.Need-shared-slice-read-fold-case Inv-loop μ-loop
-shared-slice-read-fold-case c = omega arith
-
-fold-case-requires : tie.Need-fold-case-requires Inv-loop μ-loop
-fold-case-requires c κs = search needs
-
-wide-requires : tie.Need-wide-requires Inv-loop μ-loop
-wide-requires c κs = search needs
-
-add-mark : tie.Need-add-mark Inv-loop μ-loop
-add-mark c = omega arith
-
-add-i : tie.Need-add-i Inv-loop μ-loop
-add-i c = omega arith
-
-loop-less : tie.Need-loop-less Inv-loop μ-loop
-loop-less c = omega arith
-
 loop-again : tie.Need-loop-again Inv-loop μ-loop
 loop-again c =
     let at = c .before .before .before .before in
@@ -59,18 +38,5 @@ returns c =
     sym (at .loop .inv .2 ∙ mark-end (at .loop .mark) (at .before .before .args .s .now) (at .loop .i) (omega arith))
 
 pub mark-of-spec : {M : Type 1} → statement M
-mark-of-spec =
-    tie.close
-    (tie.spec
-    Inv-loop
-    μ-loop
-    loop-holds
-    mul-mark
-    shared-slice-read-fold-case
-    fold-case-requires
-    wide-requires
-    add-mark
-    add-i
-    loop-less
-    loop-again
-    returns)
+mark-of-spec = tie.close (tie.spec Inv-loop μ-loop loop-holds (λ c. omega arith) (λ c. omega arith) (λ c κs. search needs) (λ c κs. search needs)
+    (λ c. omega arith) (λ c. omega arith) (λ c. omega arith) loop-again returns)

@@ -15,9 +15,6 @@ use Rattle.table.proofs.Laws.Keys.{key-inside, key-text}
 use Rattle.table.proofs.rows.add_if_new.Statement.{statement}
 use Rattle.table.proofs.rows.add_if_new.Tie as tie
 
-key-of-requires : tie.Need-key-of-requires
-key-of-requires c κs = search needs
-
 -- the key's place, and its mark
 own : (c : tie.After-key-of)
     → let q = c .key-of .result in
@@ -44,16 +41,10 @@ part-mark-of-start c = omega (arith, own c)
 part-mark-of-end : tie.Need-part-mark-of-end
 part-mark-of-end c = omega (arith, own c)
 
-mark-of-requires : tie.Need-mark-of-requires
-mark-of-requires c κs = search needs
-
 is-known-requires : tie.Need-is-known-requires
 is-known-requires c κs =
     let p = c .before .before .before .before .before .before .pre in
     (p .1 .1 .0, (p .1 .1 .1 .0, (p .1 .1 .1 .1, marked (c .before))))
-
-same-length : tie.Need-same-length
-same-length c = search needs
 
 returns : tie.Need-returns
 returns c =
@@ -62,12 +53,6 @@ returns c =
       answers = sym (not-true (isNewKey (a .key) (a .text .now) (a .rows .now) (a .n) (a .row)) (sym (c .before .is-known .ensures) ∙ c .if1 .taken));
       rows = λ e. true-not-false true refl (sym e);
     }
-
-put-row-requires : tie.Need-put-row-requires
-put-row-requires c κs = search needs
-
-same-length-2 : tie.Need-same-length-2
-same-length-2 c = search needs
 
 returns-2 : tie.Need-returns-2
 returns-2 c =
@@ -79,17 +64,5 @@ returns-2 c =
     }
 
 pub add-if-new-spec : {M : Type 1} → statement M
-add-if-new-spec =
-    tie.close
-    (tie.spec
-    key-of-requires
-    sub-mark-of
-    part-mark-of-start
-    part-mark-of-end
-    mark-of-requires
-    is-known-requires
-    same-length
-    returns
-    put-row-requires
-    same-length-2
-    returns-2)
+add-if-new-spec = tie.close (tie.spec (λ c κs. search needs) sub-mark-of part-mark-of-start part-mark-of-end (λ c κs. search needs) is-known-requires
+    (λ c. search needs) returns (λ c κs. search needs) (λ c. search needs) returns-2)

@@ -135,24 +135,5 @@ returns-2 c =
     ∙ c .before .loop .inv .1 j (omega arith))))
 
 pub has-key-spec : {M : Type 1} → statement M
-has-key-spec =
-    tie.close
-    (tie.spec
-    Inv-loop
-    μ-loop
-    key-of-requires
-    loop-holds
-    row-at-requires
-    key-of-requires-2
-    sub-same-text
-    part-same-text-start
-    part-same-text-end
-    sub-same-text-2
-    part-same-text-start-2
-    part-same-text-end-2
-    same-text-requires
-    returns
-    add-i
-    loop-less
-    loop-again
-    returns-2)
+has-key-spec = tie.close (tie.spec Inv-loop μ-loop key-of-requires loop-holds row-at-requires key-of-requires-2 sub-same-text part-same-text-start
+    part-same-text-end sub-same-text-2 part-same-text-start-2 part-same-text-end-2 same-text-requires returns add-i loop-less loop-again returns-2)

@@ -14,21 +14,6 @@ use Rattle.table.proofs.Laws.Marks.{new-mark}
 use Rattle.table.proofs.rows.is_known.Statement.{statement}
 use Rattle.table.proofs.rows.is_known.Tie as tie
 
-add-has-mark : tie.Need-add-has-mark
-add-has-mark c = search needs
-
-sub-has-mark : tie.Need-sub-has-mark
-sub-has-mark c = search needs
-
-part-has-mark-start : tie.Need-part-has-mark-start
-part-has-mark-start c = search needs
-
-part-has-mark-end : tie.Need-part-has-mark-end
-part-has-mark-end c = search needs
-
-has-mark-requires : tie.Need-has-mark-requires
-has-mark-requires c κs = search needs
-
 returns : tie.Need-returns
 returns c =
     let start = c .before .before .before .before .before in
@@ -41,21 +26,9 @@ returns c =
     (new-mark (a .key) (a .text .now) (a .rows .now) (a .n) (a .row) (start .pre .0) (start .pre .1 .0) (start .pre .1 .1 .0)
     (rw (size, start .pre .1 .1 .1) at none)))
 
-has-key-requires : tie.Need-has-key-requires
-has-key-requires c κs = search needs
-
 returns-2 : tie.Need-returns-2
 returns-2 c = search needs
 
 pub is-known-spec : {M : Type 1} → statement M
-is-known-spec =
-    tie.close
-    (tie.spec
-    add-has-mark
-    sub-has-mark
-    part-has-mark-start
-    part-has-mark-end
-    has-mark-requires
-    returns
-    has-key-requires
-    returns-2)
+is-known-spec = tie.close (tie.spec (λ c. search needs) (λ c. search needs) (λ c. search needs) (λ c. search needs) (λ c κs. search needs) returns
+    (λ c κs. search needs) returns-2)

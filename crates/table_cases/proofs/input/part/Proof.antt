@@ -8,15 +8,6 @@ use borrow.Author.Needs.{needs}
 use Rattle.table_cases.proofs.input.part.Statement.{statement}
 use Rattle.table_cases.proofs.input.part.Tie as tie
 
-sub-result : tie.Need-sub-result
-sub-result c = search needs
-
-part-result-start : tie.Need-part-result-start
-part-result-start c = search needs
-
-part-result-end : tie.Need-part-result-end
-part-result-end c = search needs
-
 returns : tie.Need-returns
 returns c =
     let a = c .before .before .args in
@@ -25,23 +16,8 @@ returns c =
     let f : a .end - a .from ≡ 0 = omega arith in
     ap (λ (k : ℕ). take k (drop (a .end) s)) e ∙ sym (ap (λ (k : ℕ). take k (drop (a .from) s)) f)
 
-part-result-start-2 : tie.Need-part-result-start-2
-part-result-start-2 c = search needs
-
-part-result-end-2 : tie.Need-part-result-end-2
-part-result-end-2 c = search needs
-
 returns-2 : tie.Need-returns-2
 returns-2 c = search needs
 
 pub part-spec : {M : Type 1} → statement M
-part-spec =
-    tie.close
-    (tie.spec
-    sub-result
-    part-result-start
-    part-result-end
-    returns
-    part-result-start-2
-    part-result-end-2
-    returns-2)
+part-spec = tie.close (tie.spec (λ c. search needs) (λ c. search needs) (λ c. search needs) returns (λ c. search needs) (λ c. search needs) returns-2)

@@ -18,37 +18,10 @@ Inv-loop line flat₀ ends₀ k₀ n₀ i₀ flat ends k n i =
 abbrev μ-loop : tie.MeasureT-loop
 μ-loop line flat₀ ends₀ k₀ n₀ i₀ flat ends k n i = 8 - k
 
-slice-write-ends : tie.Need-slice-write-ends Inv-loop μ-loop
-slice-write-ends c = search needs
-
 loop-holds : tie.Need-loop-holds Inv-loop μ-loop
 loop-holds c =
     let a = c .before .before .before .args in
     (search needs, search needs, search needs, search needs, search needs, getD-set-same (a .ends .now) 0 0 0 (search needs), ended-none _ _ (search needs))
-
-end-of-requires : tie.Need-end-of-requires Inv-loop μ-loop
-end-of-requires c κs = search needs
-
-part-requires : tie.Need-part-requires Inv-loop μ-loop
-part-requires c κs = search needs
-
-copy-field-requires : tie.Need-copy-field-requires Inv-loop μ-loop
-copy-field-requires c κs = search needs
-
-add-k : tie.Need-add-k Inv-loop μ-loop
-add-k c = search needs
-
-mul-ends : tie.Need-mul-ends Inv-loop μ-loop
-mul-ends c = search needs
-
-slice-write-ends-2 : tie.Need-slice-write-ends-2 Inv-loop μ-loop
-slice-write-ends-2 c = search needs
-
-behind-requires : tie.Need-behind-requires Inv-loop μ-loop
-behind-requires c κs = search needs
-
-loop-less : tie.Need-loop-less Inv-loop μ-loop
-loop-less c = search needs
 
 loop-again : tie.Need-loop-again Inv-loop μ-loop
 loop-again c =
@@ -63,12 +36,6 @@ loop-again c =
       ended-more (at .flat) (f .last .0) (at .ends) (at .k) (f .result) (search needs) (search needs) (search needs) (search needs) (at .inv .6),
     )
 
-same-length : tie.Need-same-length Inv-loop μ-loop
-same-length c = search needs
-
-same-length-2 : tie.Need-same-length-2 Inv-loop μ-loop
-same-length-2 c = search needs
-
 returns : tie.Need-returns Inv-loop μ-loop
 returns c =
     let at = c .before .loop in
@@ -76,22 +43,6 @@ returns c =
     subst (λ (k : ℕ). Ended (at .flat) (at .ends) k) e (at .inv .6)
 
 pub flatten-spec : {M : Type 1} → statement M
-flatten-spec =
-    tie.close
-    (tie.spec
-    Inv-loop
-    μ-loop
-    slice-write-ends
-    loop-holds
-    end-of-requires
-    part-requires
-    copy-field-requires
-    add-k
-    mul-ends
-    slice-write-ends-2
-    behind-requires
-    loop-less
-    loop-again
-    same-length
-    same-length-2
-    returns)
+flatten-spec = tie.close (tie.spec Inv-loop μ-loop (λ c. search needs) loop-holds (λ c κs. search needs) (λ c κs. search needs) (λ c κs. search needs)
+    (λ c. search needs) (λ c. search needs) (λ c. search needs) (λ c κs. search needs) (λ c. search needs) loop-again (λ c. search needs)
+    (λ c. search needs) returns)

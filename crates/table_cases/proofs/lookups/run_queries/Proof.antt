@@ -13,29 +13,8 @@ Inv-loop s at text to-path to-domain t from₀ from = (at ≤ from) × Kept text
 abbrev μ-loop : tie.MeasureT-loop
 μ-loop s at text to-path to-domain t from₀ from = length s - from
 
-loop-holds : tie.Need-loop-holds Inv-loop μ-loop
-loop-holds c = search needs
-
-shared-slice-read-kind : tie.Need-shared-slice-read-kind Inv-loop μ-loop
-shared-slice-read-kind c = search needs
-
 returns : tie.Need-returns Inv-loop μ-loop
 returns c = search needs
-
-line-requires : tie.Need-line-requires Inv-loop μ-loop
-line-requires c κs = search needs
-
-rest-requires : tie.Need-rest-requires Inv-loop μ-loop
-rest-requires c κs = search needs
-
-run-query-requires : tie.Need-run-query-requires Inv-loop μ-loop
-run-query-requires c κs = search needs
-
-next-line-requires : tie.Need-next-line-requires Inv-loop μ-loop
-next-line-requires c κs = search needs
-
-loop-less : tie.Need-loop-less Inv-loop μ-loop
-loop-less c = search needs
 
 loop-again : tie.Need-loop-again Inv-loop μ-loop
 loop-again c = search needs
@@ -44,18 +23,5 @@ returns-2 : tie.Need-returns-2 Inv-loop μ-loop
 returns-2 c = search needs
 
 pub run-queries-spec : {M : Type 1} → statement M
-run-queries-spec =
-    tie.close
-    (tie.spec
-    Inv-loop
-    μ-loop
-    loop-holds
-    shared-slice-read-kind
-    returns
-    line-requires
-    rest-requires
-    run-query-requires
-    next-line-requires
-    loop-less
-    loop-again
-    returns-2)
+run-queries-spec = tie.close (tie.spec Inv-loop μ-loop (λ c. search needs) (λ c. search needs) returns (λ c κs. search needs) (λ c κs. search needs)
+    (λ c κs. search needs) (λ c κs. search needs) (λ c. search needs) loop-again returns-2)

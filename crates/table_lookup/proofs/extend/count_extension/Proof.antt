@@ -28,9 +28,6 @@ mul-a c = omega (arith, c .before .before .before .before .pre .1 .room)
 shared-slice-read-a : tie.Need-shared-slice-read-a Inv-loop μ-loop
 shared-slice-read-a c = omega (arith, c .before .before .before .before .before .pre .1 .room)
 
-add-b : tie.Need-add-b Inv-loop μ-loop
-add-b c = omega arith
-
 mul-b : tie.Need-mul-b Inv-loop μ-loop
 mul-b c = omega (arith, c .before .before .before .before .before .pre .1 .room)
 
@@ -58,24 +55,12 @@ part-is-domain-part-start c = let h = ordered c in omega arith
 part-is-domain-part-end : tie.Need-part-is-domain-part-end Inv-loop μ-loop
 part-is-domain-part-end c = let h = ordered c in let w = within c in omega arith
 
-is-domain-part-requires : tie.Need-is-domain-part-requires Inv-loop μ-loop
-is-domain-part-requires c κs = search needs
-
-sub-result : tie.Need-sub-result Inv-loop μ-loop
-sub-result c = omega arith
-
 returns : tie.Need-returns Inv-loop μ-loop
 unfolding between
 returns c =
     let at = c .before .before .before .before .before .before in
     let a = at .before .before .before .args in
     omega (arith, at .loop .inv .2, extension-ends (a .levels .now) (a .ends .now) (at .loop .i) (omega arith) (failed (c .before .is-domain-part .ensures) (c .if1 .taken)))
-
-add-i : tie.Need-add-i Inv-loop μ-loop
-add-i c = omega arith
-
-loop-less : tie.Need-loop-less Inv-loop μ-loop
-loop-less c = omega arith
 
 loop-again : tie.Need-loop-again Inv-loop μ-loop
 unfolding between
@@ -94,25 +79,6 @@ returns-2 c =
     omega (arith, at .loop .inv .2, extension-past (a .levels .now) (a .ends .now) (at .loop .i) (omega arith))
 
 pub count-extension-spec : {M : Type 1} → statement M
-count-extension-spec =
-    tie.close
-    (tie.spec
-    Inv-loop
-    μ-loop
-    loop-holds
-    mul-a
-    shared-slice-read-a
-    add-b
-    mul-b
-    shared-slice-read-b
-    sub-is-domain-part
-    part-is-domain-part-start
-    part-is-domain-part-end
-    is-domain-part-requires
-    sub-result
-    returns
-    add-i
-    loop-less
-    loop-again
-    sub-result-2
-    returns-2)
+count-extension-spec = tie.close (tie.spec Inv-loop μ-loop loop-holds mul-a shared-slice-read-a (λ c. omega arith) mul-b shared-slice-read-b
+    sub-is-domain-part part-is-domain-part-start part-is-domain-part-end (λ c κs. search needs) (λ c. omega arith) returns (λ c. omega arith)
+    (λ c. omega arith) loop-again sub-result-2 returns-2)

@@ -24,9 +24,6 @@ slice-aggregate-part-end c =
     let a = c .before .before .before .args in
     sym (length-take-le (a .end) (a .text .now) (omega arith))
 
-part-end-requires : tie.Need-part-end-requires
-part-end-requires c κs = search needs
-
 within : (c : tie.After-part-end) → let a = c .before .before .before .before .args in c .part-end .result ≤ a .end
 within c =
     let a = c .before .before .before .before .args in
@@ -38,9 +35,6 @@ first c =
     let a = c .before .before .before .before .args in
     fields-first (a .text .now) (a .at) (a .end) (c .part-end .result) (omega arith) (omega arith) (c .part-end .ensures)
 
-add-t10 : tie.Need-add-t10
-add-t10 c = search needs
-
 returns-2 : tie.Need-returns-2
 unfolding levelToken
 returns-2 c =
@@ -51,9 +45,6 @@ returns-2 c =
       onward = omega arith;
       within = omega (arith, within (c .before));
     }
-
-sub-t11 : tie.Need-sub-t11
-sub-t11 c = search needs
 
 add-t14 : tie.Need-add-t14
 add-t14 c = omega (arith, within (c .before))
@@ -69,14 +60,5 @@ returns-3 c =
     }
 
 pub level-at-spec : {M : Type 1} → statement M
-level-at-spec =
-    tie.close
-    (tie.spec
-    returns
-    slice-aggregate-part-end
-    part-end-requires
-    add-t10
-    returns-2
-    sub-t11
-    add-t14
+level-at-spec = tie.close (tie.spec returns slice-aggregate-part-end (λ c κs. search needs) (λ c. search needs) returns-2 (λ c. search needs) add-t14
     returns-3)

@@ -30,9 +30,6 @@ loop-holds c =
     let args = c .before .before .before .args in
     (omega arith, looked-none byDomain (args .text .now) (args .rows .now) (partsOf (args .domain .now)), refl)
 
-row-at-requires : tie.Need-row-at-requires Inv-loop μ-loop
-row-at-requires c κs = omega arith
-
 -- the row's domain stands in the text
 inside : (c : tie.After-row-at Inv-loop μ-loop) → RowInside (c .before .before .before .before .before .before .args .text .now) (c .row-at .result)
 inside c =
@@ -45,12 +42,6 @@ is-longer-tail-requires c κs = let i = inside c in (i .domain, omega arith)
 
 sub-longest : tie.Need-sub-longest Inv-loop μ-loop
 sub-longest c = inside (c .before .before) .domain
-
-add-i : tie.Need-add-i Inv-loop μ-loop
-add-i c = omega arith
-
-loop-less : tie.Need-loop-less Inv-loop μ-loop
-loop-less c = omega arith
 
 -- the test of a row is the definition's
 test : (c : tie.After-is-longer-tail Inv-loop μ-loop) →
@@ -94,16 +85,5 @@ returns c =
     rw e (c .before .loop .inv .1)
 
 pub find-domain-spec : {M : Type 1} → statement M
-find-domain-spec =
-    tie.close
-    (tie.spec
-    Inv-loop
-    μ-loop
-    loop-holds
-    row-at-requires
-    is-longer-tail-requires
-    sub-longest
-    add-i
-    loop-less
-    loop-again
-    returns)
+find-domain-spec = tie.close (tie.spec Inv-loop μ-loop loop-holds (λ c κs. omega arith) is-longer-tail-requires sub-longest (λ c. omega arith)
+    (λ c. omega arith) loop-again returns)

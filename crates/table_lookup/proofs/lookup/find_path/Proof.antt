@@ -114,18 +114,5 @@ returns c =
     rw e (c .before .loop .inv .1)
 
 pub find-path-spec : {M : Type 1} → statement M
-find-path-spec =
-    tie.close
-    (tie.spec
-    Inv-loop
-    μ-loop
-    slice-aggregate-fill-tags
-    fill-tags-requires
-    loop-holds
-    row-at-requires
-    slice-aggregate-match-tagged
-    match-tagged-requires
-    add-i
-    loop-less
-    loop-again
-    returns)
+find-path-spec = tie.close (tie.spec Inv-loop μ-loop slice-aggregate-fill-tags fill-tags-requires loop-holds row-at-requires
+    slice-aggregate-match-tagged match-tagged-requires add-i loop-less loop-again returns)

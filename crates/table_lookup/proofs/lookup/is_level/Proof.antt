@@ -110,25 +110,6 @@ returns-3 c =
     (empty-same (a .levels .now) (getD (a .ends .now) (a .k) 0) (getD (a .ends .now) (a .k + 1) 0) (start .pre .1 .ordered (a .k) (omega arith)) (start .pre .1 .inside (a .k) (omega arith)))
 
 pub is-level-spec : {M : Type 1} → statement M
-is-level-spec =
-    tie.close
-    (tie.spec
-    mul-c
-    shared-slice-read-c
-    add-d
-    mul-d
-    shared-slice-read-d
-    enum-known-kind
-    add-b
-    sub-same-text
-    part-same-text-start
-    part-same-text-end
-    sub-same-text-2
-    part-same-text-start-2
-    part-same-text-end-2
-    same-text-requires
-    enum-told
-    enum-told-2
-    returns
-    returns-2
+is-level-spec = tie.close (tie.spec mul-c shared-slice-read-c add-d mul-d shared-slice-read-d enum-known-kind add-b sub-same-text part-same-text-start
+    part-same-text-end sub-same-text-2 part-same-text-start-2 part-same-text-end-2 same-text-requires enum-told enum-told-2 returns returns-2
     returns-3)

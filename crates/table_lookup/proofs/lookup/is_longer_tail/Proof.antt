@@ -8,16 +8,10 @@ use native.Mathlib.Omega.{arith}
 use Rattle.table_lookup.proofs.lookup.is_longer_tail.Statement.{statement}
 use Rattle.table_lookup.proofs.lookup.is_longer_tail.Tie as tie
 
-sub-if1 : tie.Need-sub-if1
-sub-if1 c = search needs
-
 returns : tie.Need-returns
 returns c =
     let args = c .before .before .before .args in
     rw (lt-leb (args .longest) (args .b - args .a) (c .if1 .taken))
-
-is-tail-requires : tie.Need-is-tail-requires
-is-tail-requires c κs = search needs
 
 returns-2 : tie.Need-returns-2
 returns-2 c =
@@ -25,4 +19,4 @@ returns-2 c =
     c .is-tail .ensures ∙ rw (le-leb (args .longest) (args .b - args .a) (omega arith))
 
 pub is-longer-tail-spec : {M : Type 1} → statement M
-is-longer-tail-spec = tie.close (tie.spec sub-if1 returns is-tail-requires returns-2)
+is-longer-tail-spec = tie.close (tie.spec (λ c. search needs) returns (λ c κs. search needs) returns-2)

@@ -93,25 +93,6 @@ returns-4 c =
     ∙ sym (tail-dot row (args .domain .now) n (omega arith) (omega arith) (c .before .before .before .if3 .left))
 
 pub is-tail-spec : {M : Type 1} → statement M
-is-tail-spec =
-    tie.close
-    (tie.spec
-    sub-n
-    returns
-    sub-from
-    sub-same-text
-    part-same-text-start
-    part-same-text-end
-    same-text-requires
-    returns-2
-    sub-if3
-    shared-slice-read-if3
-    returns-3
-    sub-same-text-2
-    part-same-text-start-2
-    part-same-text-end-2
-    sub-same-text-3
-    part-same-text-start-3
-    part-same-text-end-3
-    same-text-requires-2
-    returns-4)
+is-tail-spec = tie.close (tie.spec sub-n returns sub-from sub-same-text part-same-text-start part-same-text-end same-text-requires returns-2 sub-if3
+    shared-slice-read-if3 returns-3 sub-same-text-2 part-same-text-start-2 part-same-text-end-2 sub-same-text-3 part-same-text-start-3
+    part-same-text-end-3 same-text-requires-2 returns-4)

@@ -14,21 +14,6 @@ use borrow.Author.Needs.{needs}
 use Rattle.table_lookup.proofs.lookup.match_tagged.Statement.{statement}
 use Rattle.table_lookup.proofs.lookup.match_tagged.Tie as tie
 
-sub-tag-of : tie.Need-sub-tag-of
-sub-tag-of c = search needs
-
-part-tag-of-start : tie.Need-part-tag-of-start
-part-tag-of-start c = search needs
-
-part-tag-of-end : tie.Need-part-tag-of-end
-part-tag-of-end c = search needs
-
-tag-of-requires : tie.Need-tag-of-requires
-tag-of-requires c κs = search needs
-
-has-mark-requires : tie.Need-has-mark-requires
-has-mark-requires c κs = search needs
-
 returns : tie.Need-returns
 unfolding between
 returns c =
@@ -41,21 +26,9 @@ returns c =
     let other : all (λ m. not (eqb (tagOf path) m)) tags ≡ true = rw (c .before .before .tag-of .ensures) at none in
     rw (untagged (a .levels .now) (a .ends .now) tags (a .text .now) (a .at) (a .end) (start .pre .0 .0) (start .pre .1 .1) other)
 
-match-path-requires : tie.Need-match-path-requires
-match-path-requires c κs = search needs
-
 returns-2 : tie.Need-returns-2
 returns-2 c = search needs
 
 pub match-tagged-spec : {M : Type 1} → statement M
-match-tagged-spec =
-    tie.close
-    (tie.spec
-    sub-tag-of
-    part-tag-of-start
-    part-tag-of-end
-    tag-of-requires
-    has-mark-requires
-    returns
-    match-path-requires
-    returns-2)
+match-tagged-spec = tie.close (tie.spec (λ c. search needs) (λ c. search needs) (λ c. search needs) (λ c κs. search needs) (λ c κs. search needs)
+    returns (λ c κs. search needs) returns-2)

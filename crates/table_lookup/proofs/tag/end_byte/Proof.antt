@@ -11,19 +11,10 @@ use Rattle.table_lookup.proofs.tag.end_byte.Tie as tie
 returns : tie.Need-returns
 returns c = sym (end-none (c .before .before .args .s .now) (c .if1 .taken))
 
-sub-fold-case : tie.Need-sub-fold-case
-sub-fold-case c = search needs
-
-shared-slice-read-fold-case : tie.Need-shared-slice-read-fold-case
-shared-slice-read-fold-case c = search needs
-
-fold-case-requires : tie.Need-fold-case-requires
-fold-case-requires c κs = search needs
-
 returns-2 : tie.Need-returns-2
 returns-2 c = c .fold-case .ensures ∙ sym (end-some (c .before .before .before .before .args .s .now) (omega arith))
 
 pub end-byte-spec : {M : Type 1} → statement M
 end-byte-spec =
     tie.close
-    (tie.spec returns sub-fold-case shared-slice-read-fold-case fold-case-requires returns-2)
+    (tie.spec returns (λ c. search needs) (λ c. search needs) (λ c κs. search needs) returns-2)

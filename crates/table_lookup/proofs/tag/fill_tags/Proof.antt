@@ -24,21 +24,6 @@ abbrev μ-loop : tie.MeasureT-loop
 loop-holds : tie.Need-loop-holds Inv-loop μ-loop
 loop-holds c = (omega arith, c .before .before .before .pre .0, λ j h. absurd (omega arith))
 
-path-tag-requires : tie.Need-path-tag-requires Inv-loop μ-loop
-path-tag-requires c κs = search needs
-
-mul-tags : tie.Need-mul-tags Inv-loop μ-loop
-mul-tags c = search needs
-
-slice-write-tags : tie.Need-slice-write-tags Inv-loop μ-loop
-slice-write-tags c = search needs
-
-add-k : tie.Need-add-k Inv-loop μ-loop
-add-k c = omega arith
-
-loop-less : tie.Need-loop-less Inv-loop μ-loop
-loop-less c = omega arith
-
 loop-again : tie.Need-loop-again Inv-loop μ-loop
 loop-again c =
     let at = c .before .before in
@@ -62,17 +47,5 @@ returns : tie.Need-returns Inv-loop μ-loop
 returns c = record { size = c .before .loop .inv .1; each = λ j h. c .before .loop .inv .2 j (omega arith) }
 
 pub fill-tags-spec : {M : Type 1} → statement M
-fill-tags-spec =
-    tie.close
-    (tie.spec
-    Inv-loop
-    μ-loop
-    loop-holds
-    path-tag-requires
-    mul-tags
-    slice-write-tags
-    add-k
-    loop-less
-    loop-again
-    same-length
-    returns)
+fill-tags-spec = tie.close (tie.spec Inv-loop μ-loop loop-holds (λ c κs. search needs) (λ c. search needs) (λ c. search needs) (λ c. omega arith)
+    (λ c. omega arith) loop-again same-length returns)

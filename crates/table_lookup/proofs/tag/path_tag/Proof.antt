@@ -12,24 +12,6 @@ use borrow.Author.Needs.{needs}
 use Rattle.table_lookup.proofs.tag.path_tag.Statement.{statement}
 use Rattle.table_lookup.proofs.tag.path_tag.Tie as tie
 
-mul-from : tie.Need-mul-from
-mul-from c = search needs
-
-shared-slice-read-from : tie.Need-shared-slice-read-from
-shared-slice-read-from c = search needs
-
-add-end : tie.Need-add-end
-add-end c = search needs
-
-mul-end : tie.Need-mul-end
-mul-end c = search needs
-
-shared-slice-read-end : tie.Need-shared-slice-read-end
-shared-slice-read-end c = search needs
-
-shared-slice-read-tag-by : tie.Need-shared-slice-read-tag-by
-shared-slice-read-tag-by c = search needs
-
 -- the last level stands in the record's text
 ordered : (c : tie.After-shared-slice-known5) → let a = c .before .before .before .before .before .args in getD (a .ends .now) (a .k) 0 ≤ getD (a .ends .now) (a .k + 1) 0
 ordered c = let start = c .before .before .before .before .before in start .pre .1 .ordered (start .args .k) (start .pre .0)
@@ -52,12 +34,6 @@ part-end-byte-start c = let h = ordered c in search needs
 part-end-byte-end : tie.Need-part-end-byte-end
 part-end-byte-end c = let h = within c in search needs
 
-end-byte-requires : tie.Need-end-byte-requires
-end-byte-requires c κs = search needs
-
-tag-by-requires : tie.Need-tag-by-requires
-tag-by-requires c κs = search needs
-
 returns : tie.Need-returns
 unfolding between
 returns c =
@@ -70,20 +46,5 @@ returns c =
     ∙ path-tag s ends (a .k) (start .pre .0) (start .pre .1)
 
 pub path-tag-spec : {M : Type 1} → statement M
-path-tag-spec =
-    tie.close
-    (tie.spec
-    mul-from
-    shared-slice-read-from
-    add-end
-    mul-end
-    shared-slice-read-end
-    shared-slice-read-tag-by
-    sub-tag-by
-    add-tag-by
-    sub-end-byte
-    part-end-byte-start
-    part-end-byte-end
-    end-byte-requires
-    tag-by-requires
-    returns)
+path-tag-spec = tie.close (tie.spec (λ c. search needs) (λ c. search needs) (λ c. search needs) (λ c. search needs) (λ c. search needs)
+    (λ c. search needs) sub-tag-by add-tag-by sub-end-byte part-end-byte-start part-end-byte-end (λ c κs. search needs) (λ c κs. search needs) returns)

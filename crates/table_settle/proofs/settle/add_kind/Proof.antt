@@ -14,9 +14,6 @@ use borrow.Author.Needs.{needs}
 use Rattle.table_settle.proofs.settle.add_kind.Statement.{statement}
 use Rattle.table_settle.proofs.settle.add_kind.Tie as tie
 
-enum-known-kind : tie.Need-enum-known-kind
-enum-known-kind c = search needs
-
 -- a named level stands in the text
 named : (c : tie.After-struct-known) →
     let span = c .before .before .kind .given .0 .0 in
@@ -29,23 +26,8 @@ named c =
 add-b : tie.Need-add-b
 add-b c = let h = named c in omega arith
 
-sub-add-level : tie.Need-sub-add-level
-sub-add-level c = search needs
-
-part-add-level-start : tie.Need-part-add-level-start
-part-add-level-start c = search needs
-
 part-add-level-end : tie.Need-part-add-level-end
 part-add-level-end c = let h = named c in search needs
-
-add-level-requires : tie.Need-add-level-requires
-add-level-requires c κs = search needs
-
-enum-told : tie.Need-enum-told
-enum-told c = search needs
-
-enum-told-2 : tie.Need-enum-told-2
-enum-told-2 c = search needs
 
 returns : tie.Need-returns
 unfolding levelToken spanText
@@ -69,17 +51,5 @@ returns-3 c =
     rw (c .enum-told2 .given .1) (sym (level-omitted (a .k) [] (a .rec) refl))
 
 pub add-kind-spec : {M : Type 1} → statement M
-add-kind-spec =
-    tie.close
-    (tie.spec
-    enum-known-kind
-    add-b
-    sub-add-level
-    part-add-level-start
-    part-add-level-end
-    add-level-requires
-    enum-told
-    enum-told-2
-    returns
-    returns-2
-    returns-3)
+add-kind-spec = tie.close (tie.spec (λ c. search needs) add-b (λ c. search needs) (λ c. search needs) part-add-level-end (λ c κs. search needs)
+    (λ c. search needs) (λ c. search needs) returns returns-2 returns-3)

@@ -12,16 +12,10 @@ returns c =
     let a = c .before .before .args in
     sym (level-omitted (a .k) (a .token .now) (a .rec) (c .if1 .taken))
 
-with-single-requires : tie.Need-with-single-requires
-with-single-requires c κs = search needs
-
 returns-2 : tie.Need-returns-2
 returns-2 c =
     let a = c .before .before .before .before .args in
     c .with-single .ensures ∙ sym (level-single (a .k) (a .token .now) (a .rec) (c .before .before .if1 .left) (omega arith))
-
-with-unit-requires : tie.Need-with-unit-requires
-with-unit-requires c κs = search needs
 
 returns-3 : tie.Need-returns-3
 returns-3 c =
@@ -30,4 +24,4 @@ returns-3 c =
 
 pub add-level-spec : {M : Type 1} → statement M
 add-level-spec =
-    tie.close (tie.spec returns with-single-requires returns-2 with-unit-requires returns-3)
+    tie.close (tie.spec returns (λ c κs. search needs) returns-2 (λ c κs. search needs) returns-3)

@@ -95,22 +95,5 @@ returns-2 c =
     sym (l .inv .2 ∙ levels-none (l .i) (leftParts (a .domain .now) (l .from)) (begun (l .next)) (left-none (a .domain .now) (l .from) (omega arith)))
 
 pub add-parts-spec : {M : Type 1} → statement M
-add-parts-spec =
-    tie.close
-    (tie.spec
-    Inv-loop
-    μ-loop
-    loop-holds
-    sub-end
-    part-start-requires
-    sub-add-level
-    part-add-level-start
-    part-add-level-end
-    add-level-requires
-    enum-told
-    returns
-    enum-told-2
-    add-i
-    loop-less
-    loop-again
-    returns-2)
+add-parts-spec = tie.close (tie.spec Inv-loop μ-loop loop-holds sub-end part-start-requires sub-add-level part-add-level-start part-add-level-end
+    add-level-requires enum-told returns enum-told-2 add-i loop-less loop-again returns-2)

@@ -23,9 +23,6 @@ abbrev μ-loop : tie.MeasureT-loop
 loop-holds : tie.Need-loop-holds Inv-loop μ-loop
 loop-holds c = (omega arith, refl)
 
-level-at-requires : tie.Need-level-at-requires Inv-loop μ-loop
-level-at-requires c κs = search needs
-
 -- the level that is read, and those behind it
 found : (c : tie.After-level-at Inv-loop μ-loop) → let a = c .before .before .before .before .args in
     LevelFound (a .text .now) (c .before .before .loop .from) (a .end) (c .level-at .result .next) (c .level-at .result .kind)
@@ -54,18 +51,12 @@ step c =
     ∙ levels-next (l .k) (fieldsAt (a .text .now) (l .from) (a .end)) (levelToken (a .text .now) (level .kind)) gs (found (c .before) .fields) (l .next)
     ∙ ap (addLevels (l .k + 1) gs) (sym (c .add-kind .ensures))
 
-enum-told : tie.Need-enum-told Inv-loop μ-loop
-enum-told c = search needs
-
 returns : tie.Need-returns Inv-loop μ-loop
 returns c =
     let at = c .before .before .before in
     let a = at .before .before .before .before .before .args in
     let r = at .add-kind .result in
     sym (step at ∙ levels-stop (at .before .before .before .loop .k + 1) (fieldsAt (a .text .now) (at .before .level-at .result .next) (a .end)) (told r) (told-refused r (c .enum-told .given .1)))
-
-enum-told-2 : tie.Need-enum-told-2 Inv-loop μ-loop
-enum-told-2 c = search needs
 
 add-k : tie.Need-add-k Inv-loop μ-loop
 add-k c = let f = found (c .before .before .before .before) in omega (arith, f .onward, f .within)
@@ -87,18 +78,5 @@ returns-2 c =
     sym (l .inv .1 ∙ levels-none (l .k) (fieldsAt (a .text .now) (l .from) (a .end)) (begun (l .next)) (fields-past (a .text .now) (l .from) (a .end) (omega arith)))
 
 pub add-path-spec : {M : Type 1} → statement M
-add-path-spec =
-    tie.close
-    (tie.spec
-    Inv-loop
-    μ-loop
-    loop-holds
-    level-at-requires
-    add-kind-requires
-    enum-told
-    returns
-    enum-told-2
-    add-k
-    loop-less
-    loop-again
-    returns-2)
+add-path-spec = tie.close (tie.spec Inv-loop μ-loop loop-holds (λ c κs. search needs) add-kind-requires (λ c. search needs) returns
+    (λ c. search needs) add-k loop-less loop-again returns-2)

@@ -15,16 +15,10 @@ returns c =
     let a = c .before .before .args in
     sym (ap length (left-none (a .domain .now) (a .start) (c .if1 .taken)))
 
-sub-count-parts : tie.Need-sub-count-parts
-sub-count-parts c = search needs
-
 slice-aggregate-count-parts : tie.Need-slice-aggregate-count-parts
 slice-aggregate-count-parts c =
     let a = c .before .before .before .args in
     sym (length-take-le (a .start - 1) (a .domain .now) (omega arith))
-
-count-parts-requires : tie.Need-count-parts-requires
-count-parts-requires c κs = search needs
 
 returns-2 : tie.Need-returns-2
 returns-2 c =
@@ -34,4 +28,4 @@ returns-2 c =
 pub count-left-spec : {M : Type 1} → statement M
 count-left-spec =
     tie.close
-    (tie.spec returns sub-count-parts slice-aggregate-count-parts count-parts-requires returns-2)
+    (tie.spec returns (λ c. search needs) slice-aggregate-count-parts (λ c κs. search needs) returns-2)

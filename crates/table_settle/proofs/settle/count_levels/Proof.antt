@@ -21,9 +21,6 @@ abbrev μ-loop : tie.MeasureT-loop
 loop-holds : tie.Need-loop-holds Inv-loop μ-loop
 loop-holds c = (omega arith, omega arith)
 
-level-at-requires : tie.Need-level-at-requires Inv-loop μ-loop
-level-at-requires c κs = search needs
-
 -- the level that is read, and those behind it
 found : (c : tie.After-level-at Inv-loop μ-loop) → let a = c .before .before .before .before .args in
     LevelFound (a .text .now) (c .before .before .loop .from) (a .end) (c .level-at .result .next) (c .level-at .result .kind)
@@ -47,14 +44,4 @@ returns c =
     omega (arith, c .before .loop .inv .1, ap length (fields-past (a .text .now) (c .before .loop .from) (a .end) (omega arith)))
 
 pub count-levels-spec : {M : Type 1} → statement M
-count-levels-spec =
-    tie.close
-    (tie.spec
-    Inv-loop
-    μ-loop
-    loop-holds
-    level-at-requires
-    add-k
-    loop-less
-    loop-again
-    returns)
+count-levels-spec = tie.close (tie.spec Inv-loop μ-loop loop-holds (λ c κs. search needs) add-k loop-less loop-again returns)

@@ -68,14 +68,5 @@ returns-2 c =
     ∙ settling-none (a .text .now) (a .rows .now) (a .domain .now) (a .n) (rw (c .before .enum-told .given .1) at (c .before .before .before .find-domain .ensures))
 
 pub settle-spec : {M : Type 1} → statement M
-settle-spec =
-    tie.close
-    (tie.spec
-    find-domain-requires
-    enum-known-i
-    row-at-requires
-    settle-row-requires
-    enum-told
-    without-record-requires
-    returns
+settle-spec = tie.close (tie.spec find-domain-requires enum-known-i row-at-requires settle-row-requires enum-told without-record-requires returns
     returns-2)

@@ -10,24 +10,6 @@ use borrow.Author.Needs.{needs}
 use Rattle.table_settle.proofs.settle.settle_front.Statement.{statement}
 use Rattle.table_settle.proofs.settle.settle_front.Tie as tie
 
-enum-told : tie.Need-enum-told
-enum-told c = search needs
-
-add-parts-requires : tie.Need-add-parts-requires
-add-parts-requires c κs = search needs
-
-add-settled-as : tie.Need-add-settled-as
-add-settled-as c = search needs
-
-settled-as-requires : tie.Need-settled-as-requires
-settled-as-requires c κs = search needs
-
-enum-told-2 : tie.Need-enum-told-2
-enum-told-2 c = search needs
-
-without-record-requires : tie.Need-without-record-requires
-without-record-requires c κs = search needs
-
 returns : tie.Need-returns
 returns c =
     let a = c .before .before .before .before .before .before .args in
@@ -43,14 +25,5 @@ returns-2 c =
     ∙ sym (ap (settledAs (a .k + a .n)) (levels-stop (a .k) (leftParts (a .domain .now) (a .start)) (told (a .done)) h) ∙ settled-refused (a .k + a .n) (told (a .done)) h)
 
 pub settle-front-spec : {M : Type 1} → statement M
-settle-front-spec =
-    tie.close
-    (tie.spec
-    enum-told
-    add-parts-requires
-    add-settled-as
-    settled-as-requires
-    enum-told-2
-    without-record-requires
-    returns
-    returns-2)
+settle-front-spec = tie.close (tie.spec (λ c. search needs) (λ c κs. search needs) (λ c. search needs) (λ c κs. search needs) (λ c. search needs)
+    (λ c κs. search needs) returns returns-2)

@@ -80,18 +80,5 @@ returns-3 c =
     (done .ensures ∙ ap (λ r. addLevels 0 fs (begun r)) (c .before .before .empty .ensures))
 
 pub settle-row-spec : {M : Type 1} → statement M
-settle-row-spec =
-    tie.close
-    (tie.spec
-    count-levels-requires
-    without-record-requires
-    returns
-    sub-own
-    sub-start
-    count-left-requires
-    without-record-requires-2
-    returns-2
-    empty-requires
-    add-path-requires
-    settle-front-requires
-    returns-3)
+settle-row-spec = tie.close (tie.spec count-levels-requires without-record-requires returns sub-own sub-start count-left-requires
+    without-record-requires-2 returns-2 empty-requires add-path-requires settle-front-requires returns-3)

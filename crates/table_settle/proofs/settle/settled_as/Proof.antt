@@ -9,15 +9,6 @@ use borrow.Author.Needs.{needs}
 use Rattle.table_settle.proofs.settle.settled_as.Statement.{statement}
 use Rattle.table_settle.proofs.settle.settled_as.Tie as tie
 
-enum-told : tie.Need-enum-told
-enum-told c = search needs
-
-enum-told-2 : tie.Need-enum-told-2
-enum-told-2 c = search needs
-
-without-record-requires : tie.Need-without-record-requires
-without-record-requires c κs = search needs
-
 returns : tie.Need-returns
 unfolding settledAs
 returns c =
@@ -32,4 +23,4 @@ returns-2 c =
 
 pub settled-as-spec : {M : Type 1} → statement M
 settled-as-spec =
-    tie.close (tie.spec enum-told enum-told-2 without-record-requires returns returns-2)
+    tie.close (tie.spec (λ c. search needs) (λ c. search needs) (λ c κs. search needs) returns returns-2)

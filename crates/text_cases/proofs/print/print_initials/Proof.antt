@@ -10,34 +10,14 @@ use Rattle.text_cases.proofs.print.print_initials.Tie as tie
 returns : tie.Need-returns
 returns c = search needs
 
-slice-aggregate-put-initials : tie.Need-slice-aggregate-put-initials
-slice-aggregate-put-initials c = search needs
-
-put-initials-requires : tie.Need-put-initials-requires
-put-initials-requires c κs = search needs
-
-array-share-prefix-letters : tie.Need-array-share-prefix-letters
-array-share-prefix-letters c = search needs
-
 slice-aggregate-say : tie.Need-slice-aggregate-say
 slice-aggregate-say c =
     let n = c .before .before .before .before .before .before .args .n in
     sym (length-take-le n (c .before .before .put-initials .last .0) (search needs))
 
-say-requires : tie.Need-say-requires
-say-requires c κs = search needs
-
 returns-2 : tie.Need-returns-2
 returns-2 c = search needs
 
 pub print-initials-spec : {M : Type 1} → statement M
-print-initials-spec =
-    tie.close
-    (tie.spec
-    returns
-    slice-aggregate-put-initials
-    put-initials-requires
-    array-share-prefix-letters
-    slice-aggregate-say
-    say-requires
-    returns-2)
+print-initials-spec = tie.close (tie.spec returns (λ c. search needs) (λ c κs. search needs) (λ c. search needs) slice-aggregate-say
+    (λ c κs. search needs) returns-2)

@@ -10,15 +10,6 @@ use Rattle.ortext_write.proofs.Laws.Write.{local-bound}
 use Rattle.text_cases.proofs.print.print_local.Statement.{statement}
 use Rattle.text_cases.proofs.print.print_local.Tie as tie
 
-slice-aggregate-say : tie.Need-slice-aggregate-say
-slice-aggregate-say c = search needs
-
-say-requires : tie.Need-say-requires
-say-requires c κs = search needs
-
-slice-aggregate-write-local : tie.Need-slice-aggregate-write-local
-slice-aggregate-write-local c = search needs
-
 write-local-requires : tie.Need-write-local-requires
 write-local-requires c κs =
     let s = c .before .before .before in
@@ -41,21 +32,9 @@ slice-aggregate-say-2 c =
     let w = c .before .before .write-local in
     sym (length-take-le (w .result) (w .last .0) (omega (arith, l, w .ensures .moved)))
 
-say-requires-2 : tie.Need-say-requires-2
-say-requires-2 c κs = search needs
-
 returns : tie.Need-returns
 returns c = search needs
 
 pub print-local-spec : {M : Type 1} → statement M
-print-local-spec =
-    tie.close
-    (tie.spec
-    slice-aggregate-say
-    say-requires
-    slice-aggregate-write-local
-    write-local-requires
-    array-share-prefix-out
-    slice-aggregate-say-2
-    say-requires-2
-    returns)
+print-local-spec = tie.close (tie.spec (λ c. search needs) (λ c κs. search needs) (λ c. search needs) write-local-requires array-share-prefix-out
+    slice-aggregate-say-2 (λ c κs. search needs) returns)

@@ -14,18 +14,6 @@ Inv-loop rec from₀ from = (canonicalRecord rec ≡ true) × (from ≤ 9)
 abbrev μ-loop : tie.MeasureT-loop
 μ-loop rec from₀ from = 9 - from
 
-loop-holds : tie.Need-loop-holds Inv-loop μ-loop
-loop-holds c = search needs
-
-print-local-requires : tie.Need-print-local-requires Inv-loop μ-loop
-print-local-requires c κs = search needs
-
-add-from : tie.Need-add-from Inv-loop μ-loop
-add-from c = search needs
-
-loop-less : tie.Need-loop-less Inv-loop μ-loop
-loop-less c = search needs
-
 loop-again : tie.Need-loop-again Inv-loop μ-loop
 loop-again c = search needs
 
@@ -33,14 +21,5 @@ returns : tie.Need-returns Inv-loop μ-loop
 returns c = search needs
 
 pub print-locals-spec : {M : Type 1} → statement M
-print-locals-spec =
-    tie.close
-    (tie.spec
-    Inv-loop
-    μ-loop
-    loop-holds
-    print-local-requires
-    add-from
-    loop-less
-    loop-again
+print-locals-spec = tie.close (tie.spec Inv-loop μ-loop (λ c. search needs) (λ c κs. search needs) (λ c. search needs) (λ c. search needs) loop-again
     returns)

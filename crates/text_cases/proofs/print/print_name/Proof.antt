@@ -5,24 +5,9 @@ use Rattle.ortext_name.specs.Places.{NameReading}
 use Rattle.text_cases.proofs.print.print_name.Statement.{statement}
 use Rattle.text_cases.proofs.print.print_name.Tie as tie
 
-read-name-requires : tie.Need-read-name-requires
-read-name-requires c κs = search needs
-
-enum-known-p : tie.Need-enum-known-p
-enum-known-p c = search needs
-
 print-places-requires : tie.Need-print-places-requires
 unfolding NameReading
 print-places-requires c κs = rw (c .before .p .given .1) at (c .before .before .before .read-name .ensures)
-
-enum-told : tie.Need-enum-told
-enum-told c = search needs
-
-slice-aggregate-say : tie.Need-slice-aggregate-say
-slice-aggregate-say c = search needs
-
-say-requires : tie.Need-say-requires
-say-requires c κs = search needs
 
 returns : tie.Need-returns
 returns c = search needs
@@ -31,14 +16,5 @@ returns-2 : tie.Need-returns-2
 returns-2 c = search needs
 
 pub print-name-spec : {M : Type 1} → statement M
-print-name-spec =
-    tie.close
-    (tie.spec
-    read-name-requires
-    enum-known-p
-    print-places-requires
-    enum-told
-    slice-aggregate-say
-    say-requires
-    returns
-    returns-2)
+print-name-spec = tie.close (tie.spec (λ c κs. search needs) (λ c. search needs) print-places-requires (λ c. search needs) (λ c. search needs)
+    (λ c κs. search needs) returns returns-2)

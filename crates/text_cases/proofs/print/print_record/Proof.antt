@@ -5,23 +5,8 @@ use Rattle.chars.proofs.Laws.Lists.{passed}
 use Rattle.text_cases.proofs.print.print_record.Statement.{statement}
 use Rattle.text_cases.proofs.print.print_record.Tie as tie
 
-is-canonical-requires : tie.Need-is-canonical-requires
-is-canonical-requires c κs = search needs
-
-slice-aggregate-say : tie.Need-slice-aggregate-say
-slice-aggregate-say c = search needs
-
-say-requires : tie.Need-say-requires
-say-requires c κs = search needs
-
 returns : tie.Need-returns
 returns c = search needs
-
-slice-aggregate-say-2 : tie.Need-slice-aggregate-say-2
-slice-aggregate-say-2 c = search needs
-
-say-requires-2 : tie.Need-say-requires-2
-say-requires-2 c κs = search needs
 
 print-text-requires : tie.Need-print-text-requires
 print-text-requires c κs = passed (c .before .before .before .is-canonical .ensures) (c .before .before .if1 .left)
@@ -33,15 +18,5 @@ returns-2 : tie.Need-returns-2
 returns-2 c = search needs
 
 pub print-record-spec : {M : Type 1} → statement M
-print-record-spec =
-    tie.close
-    (tie.spec
-    is-canonical-requires
-    slice-aggregate-say
-    say-requires
-    returns
-    slice-aggregate-say-2
-    say-requires-2
-    print-text-requires
-    print-locals-requires
-    returns-2)
+print-record-spec = tie.close (tie.spec (λ c κs. search needs) (λ c. search needs) (λ c κs. search needs) returns (λ c. search needs)
+    (λ c κs. search needs) print-text-requires print-locals-requires returns-2)

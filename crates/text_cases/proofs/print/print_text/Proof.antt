@@ -10,9 +10,6 @@ use Rattle.ortext_write.proofs.Laws.Write.{text-bound}
 use Rattle.text_cases.proofs.print.print_text.Statement.{statement}
 use Rattle.text_cases.proofs.print.print_text.Tie as tie
 
-slice-aggregate-write-text : tie.Need-slice-aggregate-write-text
-slice-aggregate-write-text c = search needs
-
 write-text-requires : tie.Need-write-text-requires
 write-text-requires c κs =
     let s = c .before in
@@ -35,19 +32,9 @@ slice-aggregate-say c =
     let w = c .before .before .write-text in
     sym (length-take-le (w .result) (w .last .0) (omega (arith, l, w .ensures .moved)))
 
-say-requires : tie.Need-say-requires
-say-requires c κs = search needs
-
 returns : tie.Need-returns
 returns c = search needs
 
 pub print-text-spec : {M : Type 1} → statement M
-print-text-spec =
-    tie.close
-    (tie.spec
-    slice-aggregate-write-text
-    write-text-requires
-    array-share-prefix-out
-    slice-aggregate-say
-    say-requires
+print-text-spec = tie.close (tie.spec (λ c. search needs) write-text-requires array-share-prefix-out slice-aggregate-say (λ c κs. search needs)
     returns)

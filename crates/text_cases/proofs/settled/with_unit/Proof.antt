@@ -5,30 +5,6 @@ use Rattle.text_cases.proofs.Laws.{unit-dds}
 use Rattle.text_cases.proofs.settled.with_unit.Statement.{statement}
 use Rattle.text_cases.proofs.settled.with_unit.Tie as tie
 
-slice-aggregate-with-unit : tie.Need-slice-aggregate-with-unit
-slice-aggregate-with-unit c = search needs
-
-with-unit-requires : tie.Need-with-unit-requires
-with-unit-requires c κs = search needs
-
-slice-aggregate-with-unit-2 : tie.Need-slice-aggregate-with-unit-2
-slice-aggregate-with-unit-2 c = search needs
-
-with-unit-requires-2 : tie.Need-with-unit-requires-2
-with-unit-requires-2 c κs = search needs
-
-slice-aggregate-with-unit-3 : tie.Need-slice-aggregate-with-unit-3
-slice-aggregate-with-unit-3 c = search needs
-
-with-unit-requires-3 : tie.Need-with-unit-requires-3
-with-unit-requires-3 c κs = search needs
-
-slice-aggregate-with-unit-4 : tie.Need-slice-aggregate-with-unit-4
-slice-aggregate-with-unit-4 c = search needs
-
-with-unit-requires-4 : tie.Need-with-unit-requires-4
-with-unit-requires-4 c κs = search needs
-
 returns : tie.Need-returns
 returns c = unit-dds (c .with-unit .result) (c .before .before .before .args .rec) _ (c .with-unit .ensures)
 
@@ -42,18 +18,5 @@ returns-4 : tie.Need-returns-4
 returns-4 c = unit-dds (c .with-unit4 .result) (c .before .before .before .args .rec) _ (c .with-unit4 .ensures)
 
 pub with-unit-spec : {M : Type 1} → statement M
-with-unit-spec =
-    tie.close
-    (tie.spec
-    slice-aggregate-with-unit
-    with-unit-requires
-    slice-aggregate-with-unit-2
-    with-unit-requires-2
-    slice-aggregate-with-unit-3
-    with-unit-requires-3
-    slice-aggregate-with-unit-4
-    with-unit-requires-4
-    returns
-    returns-2
-    returns-3
-    returns-4)
+with-unit-spec = tie.close (tie.spec (λ c. search needs) (λ c κs. search needs) (λ c. search needs) (λ c κs. search needs) (λ c. search needs)
+    (λ c κs. search needs) (λ c. search needs) (λ c κs. search needs) returns returns-2 returns-3 returns-4)

@@ -13,9 +13,6 @@ use Rattle.oraddr.specs.View.{ddValueView, ddView, ddsView, kindView}
 use Rattle.oraddr.proofs.record.Dds.item.Statement.{statement}
 use Rattle.oraddr.proofs.record.Dds.item.Tie as tie
 
-size-requires : tie.Need-size-requires
-size-requires c κs = search needs
-
 element-copy-out-result : tie.Need-element-copy-out-result
 unfolding ddsView
 element-copy-out-result c =
@@ -31,11 +28,8 @@ returns c =
     let at = c .before .before .before .args in
     sym (getD-view ddView (at .t1 .items) (at .t1 .count) (at .i) (record { kind = record { len = 0; bytes = [] }; value = record { len = 0; bytes = [] } }) (omega (arith, c .before .before .size .ensures)))
 
-no-dd-requires : tie.Need-no-dd-requires
-no-dd-requires c κs = search needs
-
 returns-2 : tie.Need-returns-2
 returns-2 c = c .no-dd .ensures ∙ sym (List·getD-eq-default (ddsView (c .before .before .before .args .t1)) noDd (omega arith))
 
 pub item-spec : {M : Type 1} → statement M
-item-spec = tie.close (tie.spec size-requires mul-result element-copy-out-result returns no-dd-requires returns-2)
+item-spec = tie.close (tie.spec (λ c κs. search needs) mul-result element-copy-out-result returns (λ c κs. search needs) returns-2)

@@ -16,22 +16,10 @@ all-singles : (c : tie.Start) → length (view (c .args .self) .single) ≡ sing
 unfolding view singlesView
 all-singles c = length-map (c .args .self .singles .values) valueView ∙ simp length-map at (c .good .0 .1 .1 .0 .1 .1 .0 .1 .0 .1)
 
-single-requires : tie.Need-single-requires
-single-requires c κs = search needs
-
 returns : tie.Need-returns
 returns c =
     let at = c .before .before in
     c .single .ensures ∙ sym (level-own (view (at .args .self)) (at .args .k) (all-singles at) (c .before .if1 .taken))
-
-unit-requires : tie.Need-unit-requires
-unit-requires c κs = search needs
-
-slice-aggregate-held : tie.Need-slice-aggregate-held
-slice-aggregate-held c = search needs
-
-held-requires : tie.Need-held-requires
-held-requires c κs = search needs
 
 of-requires : tie.Need-of-requires
 of-requires c κs =
@@ -52,13 +40,5 @@ returns-2 c =
     ∙ sym (level-unit (view (start .args .self)) (start .args .k) (all-singles start) (at .before .if1 .left) (start .pre))
 
 pub level-spec : {M : Type 1} → statement M
-level-spec =
-    tie.close
-    (tie.spec
-    single-requires
-    returns
-    unit-requires
-    slice-aggregate-held
-    held-requires
-    of-requires
+level-spec = tie.close (tie.spec (λ c κs. search needs) returns (λ c κs. search needs) (λ c. search needs) (λ c κs. search needs) of-requires
     returns-2)

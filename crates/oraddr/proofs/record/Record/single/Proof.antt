@@ -8,9 +8,6 @@ use Rattle.oraddr.proofs.Laws.View.{single-view}
 use Rattle.oraddr.proofs.record.Record.single.Statement.{statement}
 use Rattle.oraddr.proofs.record.Record.single.Tie as tie
 
-value-requires : tie.Need-value-requires
-value-requires c κs = search needs
-
 returns : tie.Need-returns
 unfolding singleOf view
 returns c =
@@ -18,4 +15,4 @@ returns c =
     ap valueView (c .value .ensures) ∙ sym (single-view (at .self .singles) (at .k))
 
 pub single-spec : {M : Type 1} → statement M
-single-spec = tie.close (tie.spec value-requires returns)
+single-spec = tie.close (tie.spec (λ c κs. search needs) returns)

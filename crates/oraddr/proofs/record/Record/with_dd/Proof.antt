@@ -19,15 +19,9 @@ kind-kept c = sym (c .before .is-value .ensures) ∙ not-false (c .before .is-va
 value-kept : (c : tie.Else2) → isValue DD-VALUE (now (c .before .before .before .before .before .before .args .value)) ≡ true
 value-kept c = sym (c .before .is-value2 .ensures) ∙ not-false (c .before .is-value2 .result) (c .if2 .left)
 
-is-value-requires : tie.Need-is-value-requires
-is-value-requires c κs = search needs
-
 returns : tie.Need-returns
 unfolding addDd isDd outcome
 returns c = rw (sym (c .before .is-value .ensures) ∙ not-true (c .before .is-value .result) (c .if1 .taken))
-
-is-value-requires-2 : tie.Need-is-value-requires-2
-is-value-requires-2 c κs = search needs
 
 returns-2 : tie.Need-returns-2
 unfolding addDd isDd outcome
@@ -49,9 +43,6 @@ of-requires-2 c κs =
     let at = c .before .before .before .before in
     value-length DD-VALUE (now (at .before .before .before .before .before .before .args .value)) (value-kept at)
 
-with-requires : tie.Need-with-requires
-with-requires c κs = search needs
-
 returns-4 : tie.Need-returns-4
 unfolding addDd isDd domainDefinedOf outcome
 returns-4 c =
@@ -59,15 +50,5 @@ returns-4 c =
     rw (c .with .ensures, c .before .of2 .ensures, c .before .before .of .ensures, kind-kept (at .before .before), value-kept at, lt-ltb (at .before .before .before .before .before .before .args .self .dds .count) most (c .before .before .before .if3 .left))
 
 pub with-dd-spec : {M : Type 1} → statement M
-with-dd-spec =
-    tie.close
-    (tie.spec
-    is-value-requires
-    returns
-    is-value-requires-2
-    returns-2
-    returns-3
-    of-requires
-    of-requires-2
-    with-requires
-    returns-4)
+with-dd-spec = tie.close (tie.spec (λ c κs. search needs) returns (λ c κs. search needs) returns-2 returns-3 of-requires of-requires-2
+    (λ c κs. search needs) returns-4)

@@ -9,14 +9,8 @@ use borrow.Author.Needs.{needs}
 use Rattle.oraddr.proofs.record.Singles.value.Statement.{statement}
 use Rattle.oraddr.proofs.record.Singles.value.Tie as tie
 
-mul-result : tie.Need-mul-result
-mul-result c = search needs
-
-element-copy-out-result : tie.Need-element-copy-out-result
-element-copy-out-result c = search needs
-
 returns : tie.Need-returns
 returns c = getD-any (c .before .args .t1 .values) (c .before .args .k) (record { len = 0; bytes = [] }) (valueOf []) (omega (arith, simp length-map at (c .before .good .0 .1 .1 .0 .1 .0 .1)))
 
 pub value-spec : {M : Type 1} → statement M
-value-spec = tie.close (tie.spec mul-result element-copy-out-result returns)
+value-spec = tie.close (tie.spec (λ c. search needs) (λ c. search needs) returns)

@@ -12,9 +12,6 @@ use Rattle.oraddr.specs.View.{unitView, unitsView}
 use Rattle.oraddr.proofs.record.Units.name.Statement.{statement}
 use Rattle.oraddr.proofs.record.Units.name.Tie as tie
 
-size-requires : tie.Need-size-requires
-size-requires c κs = search needs
-
 element-copy-out-result : tie.Need-element-copy-out-result
 unfolding unitsView
 element-copy-out-result c =
@@ -30,11 +27,8 @@ returns c =
     let at = c .before .before .before .args in
     sym (getD-view unitView (at .t1 .names) (at .t1 .count) (at .i) (record { len = 0; bytes = [] }) (omega (arith, c .before .before .size .ensures)))
 
-no-unit-requires : tie.Need-no-unit-requires
-no-unit-requires c κs = search needs
-
 returns-2 : tie.Need-returns-2
 returns-2 c = c .no-unit .ensures ∙ sym (List·getD-eq-default (unitsView (c .before .before .before .args .t1)) [] (omega arith))
 
 pub name-spec : {M : Type 1} → statement M
-name-spec = tie.close (tie.spec size-requires mul-result element-copy-out-result returns no-unit-requires returns-2)
+name-spec = tie.close (tie.spec (λ c κs. search needs) mul-result element-copy-out-result returns (λ c κs. search needs) returns-2)

@@ -10,9 +10,6 @@ use Rattle.oraddr.specs.View.{unitView, unitsView}
 use Rattle.oraddr.proofs.record.Units.size.Statement.{statement}
 use Rattle.oraddr.proofs.record.Units.size.Tie as tie
 
-within-requires : tie.Need-within-requires
-within-requires c κs = search needs
-
 returns : tie.Need-returns
 unfolding unitsView
 returns c =
@@ -20,4 +17,4 @@ returns c =
     c .within .ensures ∙ sym (length-view (u .count) (map unitView (u .names)) most (length-map (u .names) unitView ∙ simp length-map at (c .before .good .0 .1 .1 .1 .0 .1 .0 .1)))
 
 pub size-spec : {M : Type 1} → statement M
-size-spec = tie.close (tie.spec within-requires returns)
+size-spec = tie.close (tie.spec (λ c κs. search needs) returns)

@@ -8,9 +8,6 @@ use Rattle.oraddr.specs.View.{kindView}
 use Rattle.oraddr.proofs.value.DdType.size.Statement.{statement}
 use Rattle.oraddr.proofs.value.DdType.size.Tie as tie
 
-within-requires : tie.Need-within-requires
-within-requires c κs = search needs
-
 returns : tie.Need-returns
 unfolding kindView
 returns c =
@@ -18,4 +15,4 @@ returns c =
     c .within .ensures ∙ sym (length-view (self .len) (self .bytes) (boundOf DD-TYPE) (search needs))
 
 pub size-spec : {M : Type 1} → statement M
-size-spec = tie.close (tie.spec within-requires returns)
+size-spec = tie.close (tie.spec (λ c κs. search needs) returns)

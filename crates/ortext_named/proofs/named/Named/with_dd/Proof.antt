@@ -10,18 +10,9 @@ returns : tie.Need-returns
 unfolding withDd
 returns c = rw (le-ltb _ 4 (c .if1 .taken))
 
-mul-places : tie.Need-mul-places
-mul-places c = search needs
-
-element-set-from-places : tie.Need-element-set-from-places
-element-set-from-places c = search needs
-
-add-self : tie.Need-add-self
-add-self c = search needs
-
 returns-2 : tie.Need-returns-2
 unfolding withDd
 returns-2 c = rw (lt-ltb _ 4 (c .if1 .left))
 
 pub with-dd-spec : {M : Type 1} → statement M
-with-dd-spec = tie.close (tie.spec returns mul-places element-set-from-places add-self returns-2)
+with-dd-spec = tie.close (tie.spec returns (λ c. search needs) (λ c. search needs) (λ c. search needs) returns-2)

@@ -7,22 +7,13 @@ use borrow.Author.Needs.{needs}
 use Rattle.ortext_named.proofs.named.Named.with_found.Statement.{statement}
 use Rattle.ortext_named.proofs.named.Named.with_found.Tie as tie
 
-with-unit-requires : tie.Need-with-unit-requires
-with-unit-requires c κs = search needs
-
 returns : tie.Need-returns
 unfolding withFound
 returns c = c .with-unit .ensures ∙ rw (eq-eqb _ 8 (c .before .if1 .taken))
 
-with-dd-requires : tie.Need-with-dd-requires
-with-dd-requires c κs = search needs
-
 returns-2 : tie.Need-returns-2
 unfolding withFound
 returns-2 c = c .with-dd .ensures ∙ rw (ne-eqb _ 8 (c .before .before .before .if1 .left), eq-eqb _ 9 (c .before .before .if2 .taken))
-
-with-once-requires : tie.Need-with-once-requires
-with-once-requires c κs = search needs
 
 returns-3 : tie.Need-returns-3
 unfolding withFound
@@ -33,13 +24,4 @@ unfolding withFound
 returns-4 c = rw (ne-eqb _ 8 (c .before .before .if1 .left), ne-eqb _ 9 (c .before .if2 .left), le-ltb _ 11 (c .if3 .left))
 
 pub with-found-spec : {M : Type 1} → statement M
-with-found-spec =
-    tie.close
-    (tie.spec
-    with-unit-requires
-    returns
-    with-dd-requires
-    returns-2
-    with-once-requires
-    returns-3
-    returns-4)
+with-found-spec = tie.close (tie.spec (λ c κs. search needs) returns (λ c κs. search needs) returns-2 (λ c κs. search needs) returns-3 returns-4)

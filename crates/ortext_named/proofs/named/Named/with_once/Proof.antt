@@ -34,13 +34,4 @@ unfolding withOnce
 returns-3 c = let n = getD (c .before .before .before .before .before .args .t1 .once) (c .before .before .before .before .before .args .k) noSpan .len in rw (eq-eqb n 0 (omega arith), ne-eqb _ 0 (c .if2 .left))
 
 pub with-once-spec : {M : Type 1} → statement M
-with-once-spec =
-    tie.close
-    (tie.spec
-    mul-there
-    element-copy-out-there
-    returns
-    returns-2
-    mul-value
-    element-set-from-value
-    returns-3)
+with-once-spec = tie.close (tie.spec mul-there element-copy-out-there returns returns-2 mul-value element-set-from-value returns-3)

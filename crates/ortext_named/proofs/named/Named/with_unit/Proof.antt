@@ -10,18 +10,9 @@ returns : tie.Need-returns
 unfolding withUnit
 returns c = rw (le-ltb _ 4 (c .if1 .taken))
 
-mul-value : tie.Need-mul-value
-mul-value c = search needs
-
-element-set-from-value : tie.Need-element-set-from-value
-element-set-from-value c = search needs
-
-add-self : tie.Need-add-self
-add-self c = search needs
-
 returns-2 : tie.Need-returns-2
 unfolding withUnit
 returns-2 c = rw (lt-ltb _ 4 (c .if1 .left))
 
 pub with-unit-spec : {M : Type 1} → statement M
-with-unit-spec = tie.close (tie.spec returns mul-value element-set-from-value add-self returns-2)
+with-unit-spec = tie.close (tie.spec returns (λ c. search needs) (λ c. search needs) (λ c. search needs) returns-2)
