@@ -106,7 +106,8 @@ pub extern "C" fn gateway_route(
     taken: &mut usize,
     written: &mut usize,
 ) -> bool
-    ensures { λ r. ⌜ Routing (loadedFrom (now (table .entry))) over (now (input .entry)) last (now (out .entry)) (record { over = r; taken = now (taken .exit); written = now (written .exit) }) (now (out .exit)) ⌝ }
+    ensures { λ r. ⌜ Routing (loadedFrom (now (table .entry))) over (now (input .entry)) last (now (out .entry))
+        (record { over = r; taken = now (taken .exit); written = now (written .exit) }) (now (out .exit)) ⌝ }
 {
     let done = route(table, over, input, last, out);
     *taken = done.taken;

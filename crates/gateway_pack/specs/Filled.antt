@@ -14,6 +14,6 @@ unfolding front
 filled s old = cond (ltb (length old) (length s)) old (front s old)
 
 -- a text and its length
-pub record Shown (s old : List ℕ) (n : ℕ) (new : List ℕ) : Type 0 where
+pub record ShownText (s old : List ℕ) (n : ℕ) (new : List ℕ) : Type 0 where
   pub size : n ≡ length s
   pub buffer : new ≡ filled s old

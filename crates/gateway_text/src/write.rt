@@ -17,7 +17,7 @@ ghost use Rattle.ortext_segments.specs.Keys.{keys};
 ghost use Rattle.ortext_write.specs.Write.{longestText, recordText};
 ghost use Rattle.mapping.specs.Answers.{Fronted, toldAddress};
 ghost use Rattle.mapping.specs.Results.{placed};
-ghost use Rattle.gateway_pack.specs.Filled.{Shown};
+ghost use Rattle.gateway_pack.specs.Filled.{ShownText};
 ghost use Rattle.gateway_text.specs.Texts.{textOfRecord};
 
 // Room for the text of any canonical record: `longestText`.
@@ -55,7 +55,7 @@ pub fn write_record(rec: Record, out: &mut [u8]) -> ToAddress
 // The text of a canonical record in `out`, if it fits, and its length.
 pub fn show(rec: Record, out: &mut [u8]) -> usize
     requires { ⌜ canonicalRecord rec ≡ true ⌝ }
-    ensures { λ r. ⌜ Shown (recordText keys (view rec)) (now (out .entry)) r (now (out .exit)) ⌝ }
+    ensures { λ r. ⌜ ShownText (recordText keys (view rec)) (now (out .entry)) r (now (out .exit)) ⌝ }
 {
     let mut text = [0u8; TEXT_ROOM];
     let n = put_text(&mut text, rec);

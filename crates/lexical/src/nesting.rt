@@ -5,6 +5,7 @@ ghost use Prim.Native.Nat.{_-_, _≤_, _<_};
 ghost use lib.ListN.{length};
 ghost use Rattle.lexical.specs.Nesting.{nestComment, nestOf, nestOutside, nestQuoted, nestsTooDeep};
 ghost use Rattle.lexical.specs.Tokens.{longestLine};
+ghost use Rattle.lexical.specs.Comment.{deepestComment};
 
 // What a byte leads to: in a quoted string or not, how many comments are open, and how many bytes behind it are taken.
 pub struct Nest {
@@ -53,7 +54,7 @@ fn nest_outside(b: u8) -> Nest
 
 // A byte in a comment: a backslash takes the next, and parentheses open and close.
 fn nest_comment(b: u8, depth: usize) -> Nest
-    requires { ⌜ (0 < depth) × (depth ≤ 8) ⌝ }
+    requires { ⌜ (0 < depth) × (depth ≤ deepestComment) ⌝ }
     ensures { λ r. ⌜ r ≡ nestComment b (depth - 1) ⌝ }
 {
     if b == b'\\' {
@@ -85,7 +86,7 @@ fn nest_comment(b: u8, depth: usize) -> Nest
 }
 
 fn nest_step(b: u8, quote: bool, depth: usize) -> Nest
-    requires { ⌜ depth ≤ 8 ⌝ }
+    requires { ⌜ depth ≤ deepestComment ⌝ }
     ensures { λ r. ⌜ r ≡ nestOf b quote depth ⌝ }
 {
     if quote {

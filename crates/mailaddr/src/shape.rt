@@ -13,7 +13,7 @@ ghost use lib.Dec.{eqb, ltb};
 ghost use lib.ListN.{drop, getD, length};
 ghost use Rattle.chars.specs.Write.{Wrote};
 ghost use Rattle.mailaddr.specs.Answers.{closingAnswer, fromShape, localAt, shapeAnswer, shaping};
-ghost use Rattle.mailaddr.specs.Shape.{addressText, closing, escaped, isReadable, isText, more, plainShape, quotedLocal, quotedShape, unescaped, withLocal};
+ghost use Rattle.mailaddr.specs.Shape.{closing, escaped, isReadable, isText, more, plainShape, quotedLocal, quotedShape, unescaped, withLocal};
 
 // The longest address.
 pub const LONGEST_ADDRESS: usize = 2048;
@@ -223,14 +223,4 @@ pub fn put_local(dst: &mut [u8], at: usize, s: &[u8]) -> usize
     let end = put_escaped(dst, at + 1, s);
     dst[end] = b'"';
     end + 1
-}
-
-// Writes an address of a local part's text and a domain.
-pub fn put_address(dst: &mut [u8], at: usize, s: &[u8], domain: &[u8]) -> usize
-    requires { ⌜ at + length (addressText (now s) (now domain)) ≤ length (now dst) ⌝ }
-    ensures { λ r. ⌜ Wrote (now (dst .entry)) at (addressText (now (s .entry)) (now (domain .entry))) r (now (dst .exit)) ⌝ }
-{
-    let end = put_local(dst, at, s);
-    dst[end] = b'@';
-    put(dst, end + 1, domain)
 }

@@ -34,6 +34,7 @@ use Rattle.mapping.specs.declared.answers.AddressAnswer.{AddressAnswer}
 use Rattle.mapping.specs.declared.answers.AddressAnswer.the-variants as address-answer
 use Rattle.mapping.specs.declared.answers.Route.{Route}
 use Rattle.mapping.specs.declared.answers.ToAddress.{ToAddress}
+use Rattle.oraddr.specs.Bounds.{levelCount}
 
 -- document 01's number for each answer of address to record, and the line
 unfoldable pub recordNumber : RecordAnswer → ℕ
@@ -122,7 +123,7 @@ pub record Routed (s : List ℕ) (ls : List Token) (p : Plan) (r : Route) : Type
   pub from : p .from ≡ r .own + r .more
   pub domain : p .domain ≡ extended (between s (r .row .domain) (r .row .«domain_end»)) (take (r .more) (drop (r .own) ls))
   pub inside : RowInside s (r .row)
-  pub few : r .own + r .more ≤ 8
+  pub few : r .own + r .more ≤ levelCount
 
 -- the route under a row, and under a table
 abbrev pub RoutedUnder : List ℕ → line.Row.Row → List Token → Route → Type 0

@@ -5,6 +5,7 @@ use mailaddr::code::decode;
 use mailaddr::shape::ShapeRead;
 use mailaddr::shape::read_shape;
 use mapping::answers::Written;
+use oraddr::bounds::LEVELS;
 use oraddr::bounds::OWN_LEVELS;
 use oraddr::bounds::SINGLES;
 use oraddr::record::Dds;
@@ -26,18 +27,19 @@ ghost use Rattle.table.specs.Rows.{RowInside, rowAt};
 ghost use Rattle.mapping.specs.Answers.{Writing};
 ghost use Rattle.mapping.specs.Carried.{carrierType, longestCoded};
 ghost use Rattle.mapping.specs.ToAddress.{carriedAddress, hasLevels, inShape, isCarrierAt, isNameless, isOneCarrier};
+ghost use Rattle.oraddr.specs.Bounds.{levelCount};
 
 // Whether levels are those of a row's path and no more.
 fn has_levels(text: &[u8], row: Row, flat: &[u8], ends: &[usize]) -> bool
     requires { ⌜ RowInside (now text) row ⌝ }
-    requires { ⌜ Ended (now flat) (now ends) 8 ⌝ }
+    requires { ⌜ Ended (now flat) (now ends) levelCount ⌝ }
     ensures { λ r. ⌜ r ≡ hasLevels (rowAt (now (text .entry)) row .path) (levelTokens (now (flat .entry)) (now (ends .entry))) ⌝ }
 {
-    let k = match_path(text, row.path, row.path_end, flat, ends, 0, 8);
+    let k = match_path(text, row.path, row.path_end, flat, ends, 0, LEVELS);
     if k == 0 {
         return false;
     }
-    ends[k] == ends[8]
+    ends[k] == ends[LEVELS]
 }
 
 // Whether a record has no S, G, I or GQ.
@@ -77,7 +79,7 @@ fn is_one_carrier(dds: Dds) -> bool
 // Whether a record, whose levels are in `flat`, is a carrier under the gateway's path.
 pub fn is_carrier(text: &[u8], gateway: Row, rec: Record, flat: &[u8], ends: &[usize]) -> bool
     requires { ⌜ RowInside (now text) gateway ⌝ }
-    requires { ⌜ Ended (now flat) (now ends) 8 ⌝ }
+    requires { ⌜ Ended (now flat) (now ends) levelCount ⌝ }
     ensures { λ r. ⌜ r ≡ isCarrierAt (rowAt (now (text .entry)) gateway .path) (levelTokens (now (flat .entry)) (now (ends .entry))) (view rec) ⌝ }
 {
     if !has_levels(text, gateway, flat, ends) {

@@ -1,5 +1,6 @@
 // A record's eight levels, flattened into a buffer once, so that no record goes through the look-up.
 use chars::write::put;
+use oraddr::bounds::LEVELS;
 use oraddr::record::Record;
 ghost use mathlib.Core.Path.{_≡_};
 ghost use mathlib.Core.List.{[]};
@@ -9,6 +10,7 @@ ghost use Rattle.chars.specs.Write.{Wrote};
 ghost use Rattle.oraddr.specs.Attributes.{levels};
 ghost use Rattle.oraddr.specs.View.{view};
 ghost use Rattle.mapping.specs.Flat.{Flat, endsRoom, levelsRoom};
+ghost use Rattle.oraddr.specs.Bounds.{levelCount, boundOf, O};
 
 // Room for eight levels, each at most as long as the longest.
 pub const LEVELS_ROOM: usize = 512;
@@ -18,8 +20,8 @@ pub const ENDS_ROOM: usize = 9;
 
 // Writes level k.
 fn put_level(dst: &mut [u8], at: usize, rec: Record, k: usize) -> usize
-    requires { ⌜ k < 8 ⌝ }
-    requires { ⌜ at + 64 ≤ length (now dst) ⌝ }
+    requires { ⌜ k < levelCount ⌝ }
+    requires { ⌜ at + boundOf O ≤ length (now dst) ⌝ }
     ensures { λ r. ⌜ Wrote (now (dst .entry)) at (getD (levels (view rec)) k []) r (now (dst .exit)) ⌝ }
 {
     let value = rec.level(k);
@@ -37,7 +39,7 @@ pub fn flatten(rec: Record, flat: &mut [u8], ends: &mut [usize])
     ends[0] = 0;
     let mut n = 0;
     let mut k = 0;
-    while k < 8 {
+    while k < LEVELS {
         n = put_level(flat, n, rec, k);
         k += 1;
         ends[k] = n;

@@ -39,6 +39,7 @@ ghost use Rattle.table.specs.Rows.{Inside, RowInside, rowAt};
 ghost use Rattle.mapping.specs.Answers.{RoutedBy, RoutedUnder, Writing, addressRoom, outward, routedText, toldAddress};
 ghost use Rattle.mapping.specs.Flat.{Flat, fronts};
 ghost use Rattle.mapping.specs.ToAddress.{addressOf, recordToAddress, toAddress};
+ghost use Rattle.oraddr.specs.Bounds.{levelCount};
 
 // Room for any local part, and for any address.
 const LOCAL_ROOM: usize = 1792;
@@ -48,7 +49,7 @@ pub const ADDRESS_ROOM: usize = 2560;
 // The route under a row whose path begins the levels.
 fn route_under(text: &[u8], row: Row, flat: &[u8], ends: &[usize]) -> Route
     requires { ⌜ RowInside (now text) row ⌝ }
-    requires { ⌜ Ended (now flat) (now ends) 8 ⌝ }
+    requires { ⌜ Ended (now flat) (now ends) levelCount ⌝ }
     requires { ⌜ begins (rowAt (now text) row .path) (levelTokens (now flat) (now ends)) ≡ true ⌝ }
     ensures { λ r. ⌜ RoutedUnder (now (text .entry)) row (levelTokens (now (flat .entry)) (now (ends .entry))) r ⌝ }
 {
@@ -61,7 +62,7 @@ fn route_under(text: &[u8], row: Row, flat: &[u8], ends: &[usize]) -> Route
 fn find_route(text: &[u8], to_domain: &[usize], table: Loaded, flat: &[u8], ends: &[usize]) -> Route
     requires { ⌜ RowInside (now text) (table .gateway) ⌝ }
     requires { ⌜ Inside (now text) (now «to_domain») (table .«to_domain») ⌝ }
-    requires { ⌜ Ended (now flat) (now ends) 8 ⌝ }
+    requires { ⌜ Ended (now flat) (now ends) levelCount ⌝ }
     ensures { λ r. ⌜ RoutedBy (now (text .entry)) (outward (now (text .entry)) (now («to_domain» .entry)) table) (levelTokens (now (flat .entry)) (now (ends .entry))) r ⌝ }
 {
     match find_path(text, to_domain, table.to_domain, flat, ends) {
@@ -79,8 +80,8 @@ fn find_route(text: &[u8], to_domain: &[usize], table: Loaded, flat: &[u8], ends
 
 // Writes the n levels from k on, the last of them first, each with a dot.
 fn put_fronts(dst: &mut [u8], at: usize, flat: &[u8], ends: &[usize], k: usize, n: usize) -> usize
-    requires { ⌜ k + n ≤ 8 ⌝ }
-    requires { ⌜ Ended (now flat) (now ends) 8 ⌝ }
+    requires { ⌜ k + n ≤ levelCount ⌝ }
+    requires { ⌜ Ended (now flat) (now ends) levelCount ⌝ }
     requires { ⌜ at + length (fronts (take n (drop k (levelTokens (now flat) (now ends))))) ≤ length (now dst) ⌝ }
     ensures { λ r. ⌜ Wrote (now (dst .entry)) at (fronts (take n (drop k (levelTokens (now (flat .entry)) (now (ends .entry)))))) r (now (dst .exit)) ⌝ }
 {
@@ -110,7 +111,7 @@ fn write_routed(
     requires { ⌜ canonicalRecord rec ≡ true ⌝ }
     requires { ⌜ Flat (levels (view rec)) (now flat) (now ends) ⌝ }
     requires { ⌜ RowInside (now text) (route .row) ⌝ }
-    requires { ⌜ route .own + route .more ≤ 8 ⌝ }
+    requires { ⌜ route .own + route .more ≤ levelCount ⌝ }
     ensures { λ r. ⌜ Wrote (now (dst .entry)) 0 (routedText (now (text .entry)) route (view rec)) r (now (dst .exit)) ⌝ }
 {
     let own = route.own;

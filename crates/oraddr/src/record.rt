@@ -67,7 +67,7 @@ const NO_DD: DomainDefined = DomainDefined {
 };
 
 // The record with no attribute.
-pub const EMPTY: Record = Record {
+pub(crate) const EMPTY: Record = Record {
     singles: Singles {
         values: [NO_VALUE; SINGLES],
     },

@@ -6,8 +6,8 @@ use mathlib.Core.Bool.{Bool, true, false, _&&_, _||_, not, cond}
 use mathlib.Core.List.{List}
 use lib.Dec.{leb, ltb, eqb}
 use lib.ListN.{length, getD, replicate, set}
-use Rattle.oraddr.specs.Bounds.{S, G, I, GQ, most}
-use Rattle.ortext_segments.specs.Keys.{OU-KEY, DD-KEY, PN-KEY, ownLevels}
+use Rattle.oraddr.specs.Bounds.{G, GQ, I, S, most, ownLevels}
+use Rattle.ortext_segments.specs.Keys.{OU-KEY, DD-KEY, PN-KEY}
 use Rattle.ortext_segments.specs.Segments.{unknown}
 use Rattle.ortext_segments.specs.Scan.{spanText}
 use Rattle.ortext_segments.specs.declared.scan.Span.{Span}

@@ -16,7 +16,7 @@ ghost use mathlib.Core.Path.{_≡_};
 ghost use Prim.Native.Nat.{_<_, min};
 ghost use lib.Dec.{leb};
 ghost use mathlib.Core.Bool.{not};
-ghost use Rattle.ortext_segments.specs.Keys.{ownLevels};
+ghost use Rattle.oraddr.specs.Bounds.{ownLevels};
 ghost use Rattle.ortext_segments.specs.Segments.{unknown};
 ghost use Rattle.ortext_named.specs.Named.{isBeside, nothing, takeFound, withDd, withFound, withOnce, withUnit};
 

@@ -8,12 +8,12 @@ use mathlib.Core.Option.{Option, none, some}
 use lib.Dec.{leb, eqb}
 use lib.ListN.{length, getD}
 use Rattle.chars.specs.Lists.{all, nonEmpty}
-use Rattle.oraddr.specs.Bounds.{C, ADMD, PRMD, O, S, G, I, GQ}
+use Rattle.oraddr.specs.Bounds.{ADMD, C, G, GQ, I, O, PRMD, S, ownLevels}
 use Rattle.oraddr.specs.Attributes.{Attributes, Dd, singleOf}
 use Rattle.oraddr.specs.Add.{Outcome, addSingle}
 use Rattle.oraddr.specs.View.{view}
 use Rattle.oraddr.specs.declared.record.Record.{Record}
-use Rattle.ortext_segments.specs.Keys.{Keys, OU-KEY, DD-KEY, PN-KEY, ownLevels}
+use Rattle.ortext_segments.specs.Keys.{Keys, OU-KEY, DD-KEY, PN-KEY}
 use Rattle.ortext_name.specs.Name.{Name, readName}
 use Rattle.ortext_segments.specs.Segments.{Segment, unknown, readSegments}
 use Rattle.ortext_build.specs.Adding.{addDds, addSingles, addUnits}

@@ -12,14 +12,7 @@ use Rattle.chars.specs.Case.{sameText}
 use Rattle.chars.specs.Parts.{isPart}
 use Rattle.ortext_segments.specs.declared.keys.KeyName.{KeyName}
 
--- The numbers of keys: first the attributes that a record has once, by their numbers in the table of bounds, of which the first
--- four are levels; then these.
-abbrev pub singleCount : ℕ
-singleCount = 8
-
-abbrev pub ownLevels : ℕ
-ownLevels = 4
-
+-- The numbers of keys: first the attributes that a record has once (`singles`), by their numbers in the table of bounds; then these.
 abbrev pub OU-KEY : ℕ
 OU-KEY = 8
 

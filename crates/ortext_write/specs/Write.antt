@@ -6,9 +6,9 @@ use mathlib.Core.List.{List, [], _∷_, _++_, map, reverse}
 use lib.Dec.{ltb, eqb}
 use lib.ListN.{length, getD, take, drop, replicate}
 use Rattle.chars.specs.Lists.{all, nonEmpty}
-use Rattle.oraddr.specs.Bounds.{C, ADMD, PRMD, O, S, G, I, GQ}
+use Rattle.oraddr.specs.Bounds.{ADMD, C, G, GQ, I, O, PRMD, S, ownLevels}
 use Rattle.oraddr.specs.Attributes.{Attributes, Dd, singleOf}
-use Rattle.ortext_segments.specs.Keys.{Keys, OU-KEY, DD-KEY, SHORT-KEYS, keyNumber, ownLevels}
+use Rattle.ortext_segments.specs.Keys.{Keys, OU-KEY, DD-KEY, SHORT-KEYS, keyNumber}
 use Rattle.ortext_name.specs.Name.{Name, isShort, nameText}
 use Rattle.ortext_segments.specs.Segments.{Segment}
 

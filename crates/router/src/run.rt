@@ -50,7 +50,8 @@ fn answer_rest(
     requires { ⌜ run 10 (drop at (now input)) ≡ length (drop at (now input)) ⌝ }
     requires { ⌜ written ≤ length (now out) ⌝ }
     requires { ⌜ over ≡ ltb longestLine (length (drop at (now input))) ⌝ }
-    ensures { λ r. ⌜ RoutingRest (loadAnswer (now (text .entry)) (now («to_path» .entry)) (now («to_domain» .entry)) read) (now (input .entry)) at over written (now (out .entry)) r (now (out .exit)) ⌝ }
+    ensures { λ r. ⌜ RoutingRest (loadAnswer (now (text .entry)) (now («to_path» .entry)) (now («to_domain» .entry)) read)
+        (now (input .entry)) at over written (now (out .entry)) r (now (out .exit)) ⌝ }
 {
     match place_answer(text, to_path, to_domain, read, &input[at..], out, written) {
         Placing::Next(n) => Routed {
@@ -82,7 +83,8 @@ fn route_rest(
     requires { ⌜ at < length (now input) ⌝ }
     requires { ⌜ run 10 (drop at (now input)) ≡ length (drop at (now input)) ⌝ }
     requires { ⌜ written ≤ length (now out) ⌝ }
-    ensures { λ r. ⌜ RoutingFrom (loadAnswer (now (text .entry)) (now («to_path» .entry)) (now («to_domain» .entry)) read) false (drop at (now (input .entry))) (now (input .entry)) last written (now (out .entry)) r (now (out .exit)) ⌝ }
+    ensures { λ r. ⌜ RoutingFrom (loadAnswer (now (text .entry)) (now («to_path» .entry)) (now («to_domain» .entry)) read) false
+        (drop at (now (input .entry))) (now (input .entry)) last written (now (out .entry)) r (now (out .exit)) ⌝ }
 {
     if LONGEST_LINE < input.len() - at {
         return answer_rest(
@@ -130,7 +132,8 @@ fn route_from(
 ) -> Routed
     requires { ⌜ Ready (now text) (now «to_path») (now «to_domain») read ⌝ }
     requires { ⌜ from ≤ length (now input) ⌝ }
-    ensures { λ r. ⌜ RoutingFrom (loadAnswer (now (text .entry)) (now («to_path» .entry)) (now («to_domain» .entry)) read) false (drop from (now (input .entry))) (now (input .entry)) last 0 (now (out .entry)) r (now (out .exit)) ⌝ }
+    ensures { λ r. ⌜ RoutingFrom (loadAnswer (now (text .entry)) (now («to_path» .entry)) (now («to_domain» .entry)) read) false
+        (drop from (now (input .entry))) (now (input .entry)) last 0 (now (out .entry)) r (now (out .exit)) ⌝ }
 {
     let mut at = from;
     let mut written = 0;
@@ -191,7 +194,8 @@ pub fn route(
     out: &mut [u8],
 ) -> Routed
     requires { ⌜ Ready (now text) (now «to_path») (now «to_domain») read ⌝ }
-    ensures { λ r. ⌜ Routing (loadAnswer (now (text .entry)) (now («to_path» .entry)) (now («to_domain» .entry)) read) over (now (input .entry)) last (now (out .entry)) r (now (out .exit)) ⌝ }
+    ensures { λ r. ⌜ Routing (loadAnswer (now (text .entry)) (now («to_path» .entry)) (now («to_domain» .entry)) read) over
+        (now (input .entry)) last (now (out .entry)) r (now (out .exit)) ⌝ }
 {
     if !over {
         return route_from(text, to_path, to_domain, read, input, 0, last, out);

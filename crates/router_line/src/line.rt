@@ -15,11 +15,11 @@ use table::load::TableRead;
 ghost use mathlib.Core.Path.{_≡_};
 ghost use mathlib.Core.Bool.{true};
 ghost use Prim.Native.Nat.{_+_, _<_, _≤_};
-ghost use lib.ListN.{length, getD, drop};
+ghost use lib.ListN.{length};
 ghost use Rattle.chars.specs.Write.{Wrote};
 ghost use Rattle.oraddr.specs.Canonical.{canonicalRecord};
 ghost use Rattle.oraddr.specs.View.{view};
-ghost use Rattle.ortext_read.specs.Apply.{read, readText};
+ghost use Rattle.ortext_read.specs.Apply.{read};
 ghost use Rattle.ortext_segments.specs.Keys.{keys};
 ghost use Rattle.ortext_write.specs.Write.{recordText};
 ghost use Rattle.table.specs.Formed.{Formed};
@@ -28,7 +28,7 @@ ghost use Rattle.table.specs.Load.{Kept, loadAnswer};
 ghost use Rattle.table.specs.Rows.{Inside, RowInside, tableAt};
 ghost use Rattle.mapping.specs.Answers.{outward};
 ghost use Rattle.mapping.specs.ToRecord.{toRecord, toRecordBy};
-ghost use Rattle.router_line.specs.Line.{doneLine, lineAnswer, readLine, recordLine, refusedLine, taggedLine, textLine};
+ghost use Rattle.router_line.specs.Line.{answerRoom, doneLine, lineAnswer, readLine, recordLine, refusedLine, taggedLine, textLine};
 ghost use Rattle.router_line.specs.Ready.{Placed, Ready};
 
 // The longest line, and room for any answer.
@@ -67,7 +67,7 @@ fn put_done(dst: &mut [u8], s: &[u8]) -> usize
 
 // A record's text.
 fn put_record(dst: &mut [u8], rec: Record) -> usize
-    requires { ⌜ length (now dst) ≡ 2563 ⌝ }
+    requires { ⌜ length (now dst) ≡ answerRoom ⌝ }
     requires { ⌜ canonicalRecord rec ≡ true ⌝ }
     ensures { λ r. ⌜ Wrote (now (dst .entry)) 0 (doneLine (recordText keys (view rec))) r (now (dst .exit)) ⌝ }
 {
@@ -89,8 +89,9 @@ fn map_line(
 ) -> usize
     requires { ⌜ Kept (now text) (now «to_path») (now «to_domain») table ⌝ }
     requires { ⌜ Formed (tableAt (now text) (now «to_path») (now «to_domain») table) ⌝ }
-    requires { ⌜ length (now dst) ≡ 2563 ⌝ }
-    ensures { λ r. ⌜ Wrote (now (dst .entry)) 0 (recordLine (toRecord (tableAt (now (text .entry)) (now («to_path» .entry)) (now («to_domain» .entry)) table) (now (s .entry)))) r (now (dst .exit)) ⌝ }
+    requires { ⌜ length (now dst) ≡ answerRoom ⌝ }
+    ensures { λ r. ⌜ Wrote (now (dst .entry)) 0
+        (recordLine (toRecord (tableAt (now (text .entry)) (now («to_path» .entry)) (now («to_domain» .entry)) table) (now (s .entry)))) r (now (dst .exit)) ⌝ }
 {
     let done = map_address(text, to_path, table, s);
     let answer = done.answer;
@@ -112,8 +113,9 @@ fn answer_address(
     dst: &mut [u8],
 ) -> usize
     requires { ⌜ Ready (now text) (now «to_path») (now «to_domain») read ⌝ }
-    requires { ⌜ length (now dst) ≡ 2563 ⌝ }
-    ensures { λ r. ⌜ Wrote (now (dst .entry)) 0 (recordLine (toRecordBy (loadAnswer (now (text .entry)) (now («to_path» .entry)) (now («to_domain» .entry)) read) (now (s .entry)))) r (now (dst .exit)) ⌝ }
+    requires { ⌜ length (now dst) ≡ answerRoom ⌝ }
+    ensures { λ r. ⌜ Wrote (now (dst .entry)) 0
+        (recordLine (toRecordBy (loadAnswer (now (text .entry)) (now («to_path» .entry)) (now («to_domain» .entry)) read) (now (s .entry)))) r (now (dst .exit)) ⌝ }
 {
     match read {
         TableRead::Table(t) => map_line(text, to_path, to_domain, t, s, dst),
@@ -131,7 +133,7 @@ fn send_record(
 ) -> usize
     requires { ⌜ RowInside (now text) (table .gateway) ⌝ }
     requires { ⌜ Inside (now text) (now «to_domain») (table .«to_domain») ⌝ }
-    requires { ⌜ length (now dst) ≡ 2563 ⌝ }
+    requires { ⌜ length (now dst) ≡ answerRoom ⌝ }
     ensures { λ r. ⌜ Wrote (now (dst .entry)) 0 (readLine (outward (now (text .entry)) (now («to_domain» .entry)) table) (read rec)) r (now (dst .exit)) ⌝ }
 {
     if !is_canonical(rec) {
@@ -148,7 +150,7 @@ fn send_record(
 fn read_line(text: &[u8], to_domain: &[usize], table: Loaded, s: &[u8], dst: &mut [u8]) -> usize
     requires { ⌜ RowInside (now text) (table .gateway) ⌝ }
     requires { ⌜ Inside (now text) (now «to_domain») (table .«to_domain») ⌝ }
-    requires { ⌜ length (now dst) ≡ 2563 ⌝ }
+    requires { ⌜ length (now dst) ≡ answerRoom ⌝ }
     ensures { λ r. ⌜ Wrote (now (dst .entry)) 0 (textLine (wellFormed (outward (now (text .entry)) (now («to_domain» .entry)) table)) (now (s .entry))) r (now (dst .exit)) ⌝ }
 {
     let done = read_text(Record::empty(), 0, s);
@@ -172,8 +174,9 @@ fn answer_text(
     dst: &mut [u8],
 ) -> usize
     requires { ⌜ Ready (now text) (now «to_path») (now «to_domain») read ⌝ }
-    requires { ⌜ length (now dst) ≡ 2563 ⌝ }
-    ensures { λ r. ⌜ Wrote (now (dst .entry)) 0 (textLine (loadAnswer (now (text .entry)) (now («to_path» .entry)) (now («to_domain» .entry)) read) (now (s .entry))) r (now (dst .exit)) ⌝ }
+    requires { ⌜ length (now dst) ≡ answerRoom ⌝ }
+    ensures { λ r. ⌜ Wrote (now (dst .entry)) 0
+        (textLine (loadAnswer (now (text .entry)) (now («to_path» .entry)) (now («to_domain» .entry)) read) (now (s .entry))) r (now (dst .exit)) ⌝ }
 {
     match read {
         TableRead::Table(t) => read_line(text, to_domain, t, s, dst),
@@ -192,8 +195,9 @@ fn answer_tagged(
     dst: &mut [u8],
 ) -> usize
     requires { ⌜ Ready (now text) (now «to_path») (now «to_domain») read ⌝ }
-    requires { ⌜ length (now dst) ≡ 2563 ⌝ }
-    ensures { λ r. ⌜ Wrote (now (dst .entry)) 0 (taggedLine (loadAnswer (now (text .entry)) (now («to_path» .entry)) (now («to_domain» .entry)) read) tag (now (s .entry))) r (now (dst .exit)) ⌝ }
+    requires { ⌜ length (now dst) ≡ answerRoom ⌝ }
+    ensures { λ r. ⌜ Wrote (now (dst .entry)) 0
+        (taggedLine (loadAnswer (now (text .entry)) (now («to_path» .entry)) (now («to_domain» .entry)) read) tag (now (s .entry))) r (now (dst .exit)) ⌝ }
 {
     if tag == b'A' {
         return answer_address(text, to_path, to_domain, read, s, dst);
@@ -214,8 +218,9 @@ fn answer_line(
     dst: &mut [u8],
 ) -> usize
     requires { ⌜ Ready (now text) (now «to_path») (now «to_domain») read ⌝ }
-    requires { ⌜ length (now dst) ≡ 2563 ⌝ }
-    ensures { λ r. ⌜ Wrote (now (dst .entry)) 0 (lineAnswer (loadAnswer (now (text .entry)) (now («to_path» .entry)) (now («to_domain» .entry)) read) (now (line .entry))) r (now (dst .exit)) ⌝ }
+    requires { ⌜ length (now dst) ≡ answerRoom ⌝ }
+    ensures { λ r. ⌜ Wrote (now (dst .entry)) 0
+        (lineAnswer (loadAnswer (now (text .entry)) (now («to_path» .entry)) (now («to_domain» .entry)) read) (now (line .entry))) r (now (dst .exit)) ⌝ }
 {
     if LONGEST_LINE < line.len() {
         return put_refusal(dst, 1);
@@ -253,7 +258,8 @@ pub fn place_answer(
 ) -> Placing
     requires { ⌜ Ready (now text) (now «to_path») (now «to_domain») read ⌝ }
     requires { ⌜ at ≤ length (now out) ⌝ }
-    ensures { λ r. ⌜ Placed (now (out .entry)) at (lineAnswer (loadAnswer (now (text .entry)) (now («to_path» .entry)) (now («to_domain» .entry)) read) (now (line .entry))) r (now (out .exit)) ⌝ }
+    ensures { λ r. ⌜ Placed (now (out .entry)) at
+        (lineAnswer (loadAnswer (now (text .entry)) (now («to_path» .entry)) (now («to_domain» .entry)) read) (now (line .entry))) r (now (out .exit)) ⌝ }
 {
     let mut answer = [0u8; ANSWER_ROOM];
     let n = answer_line(text, to_path, to_domain, read, line, &mut answer);

@@ -8,7 +8,7 @@ use Prim.Native.Nat.{ℕ, _+_, _≤_}
 use lib.ListN.{length, getD}
 use Rattle.chars.specs.Lists.{bytes}
 use Rattle.oraddr.specs.Add.{addSingle}
-use Rattle.oraddr.specs.Bounds.{S}
+use Rattle.oraddr.specs.Bounds.{S, levelCount}
 use Rattle.oraddr.specs.View.{emptyRecord}
 use Rattle.oraddr.specs.declared.record.Record.{Record}
 use Rattle.mailaddr.specs.Domain.{partsOf}
@@ -43,7 +43,7 @@ pub record FirstBack (t : Table) (r : Row) : Type 0 where
 -- The second candidate of an R row and a target's domain comes back, where the domain lies under the row's and its parts can be levels.
 abbrev pub SecondBack : Table → Row → List ℕ → Type 0
 SecondBack t r d =
-    (z : List Token) → foldTokens (partsOf d) ≡ domainRow r .val ++ z → 1 ≤ length z → length (domainRow r .key) + length z ≤ 8
+    (z : List Token) → foldTokens (partsOf d) ≡ domainRow r .val ++ z → 1 ≤ length z → length (domainRow r .key) + length z ≤ levelCount
     → fitsFrom fits (length (domainRow r .key)) z ≡ true → Back (tokenTable t) (pad (domainRow r .key ++ z))
 
 abbrev pub isSound : CheckAnswer → Bool

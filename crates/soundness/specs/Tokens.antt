@@ -13,6 +13,7 @@ use Rattle.chars.specs.Case.{equalText}
 use Rattle.chars.specs.Domain.{isDomainPart}
 use Rattle.table_lookup.specs.Begins.{beginsBy, lookBy, resolveBy}
 use Rattle.table_lookup.specs.Lookup.{extension}
+use Rattle.oraddr.specs.Bounds.{levelCount}
 
 -- ---- tables
 
@@ -56,7 +57,7 @@ resolve T q = resolveBy equalText keyOf valOf (T .D) q
 
 -- as the eight levels of a record: those that are not given are absent
 unfoldable pub pad : List Tok → List Tok
-pad y = y ++ replicate (8 - length y) []
+pad y = y ++ replicate (levelCount - length y) []
 
 -- the levels that are there
 unfoldable pub present : List Tok → List Tok
@@ -99,7 +100,7 @@ Back T L = BackBy T L (look (T .R) L)
 -- document 01: "A path gives levels from C, two to eight fields. Only PRMD may be an empty field, meaning omitted"
 pub record IsPath (p : List Tok) : Type 0 where
   pub two : 2 ≤ length p
-  pub eight : length p ≤ 8
+  pub eight : length p ≤ levelCount
   pub full : all nonEmpty (drop 3 p) ≡ true
 
 -- document 01, "The table text": "Two D rows with one domain, or two R rows with one path .. make the later line bad"; paths; domain parts.
@@ -140,7 +141,7 @@ module _ (fits : ℕ → Tok → Bool) where
 
   -- "The levels are C, ADMD, PRMD, O, OU1 to OU4": eight, each within its bound
   pub record Levels (L : List Tok) : Type 0 where
-    pub eight : length L ≡ 8
+    pub eight : length L ≡ levelCount
     pub within : fitsFrom 0 L ≡ true
 
   -- What the check asks: that finitely many levels come back, the candidates.
@@ -155,7 +156,7 @@ module _ (fits : ℕ → Tok → Bool) where
     pub plain : (r : Row) → List·Memᴰ r (T .R) → 3 ≤ length (r .key) → Back T (pad (r .key))
     pub two : (r : Row) → List·Memᴰ r (T .R) → length (r .key) ≡ 2 → Tried T r false
     pub bare : (r : Row) → List·Memᴰ r (T .R) → length (r .key) ≡ 3 → getD (r .key) 2 [] ≡ [] → Tried T r true
-    pub second : (r : Row) → List·Memᴰ r (T .R) → (z : List Tok) → Target T (r .val ++ z) → 1 ≤ length z → length (r .key) + length z ≤ 8
+    pub second : (r : Row) → List·Memᴰ r (T .R) → (z : List Tok) → Target T (r .val ++ z) → 1 ≤ length z → length (r .key) + length z ≤ levelCount
         → fitsFrom (length (r .key)) z ≡ true → Back T (pad (r .key ++ z))
 
   -- Tokens that the candidates can be made of: fresh ones within the bounds of PRMD, no domain part, and of O, a domain part; an absent

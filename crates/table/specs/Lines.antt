@@ -8,7 +8,7 @@ use lib.ListN.{length, getD, drop}
 use Rattle.chars.specs.Lists.{all, nonEmpty}
 use Rattle.chars.specs.Case.{agree, equalText, sameText}
 use Rattle.chars.specs.Parts.{split}
-use Rattle.oraddr.specs.Bounds.{rule}
+use Rattle.oraddr.specs.Bounds.{levelCount, rule}
 use Rattle.oraddr.specs.Canonical.{isUnit}
 use Rattle.mailaddr.specs.Domain.{isDomain}
 use Rattle.table.specs.Table.{Row, Table, Token}
@@ -63,7 +63,7 @@ areFields k (s ∷ ss) = isField k s && areFields (suc k) ss
 -- "A path gives levels from C, two to eight fields."
 unfoldable pub isPath : List Token → Bool
 unfolding areFields
-isPath ss = leb 2 (length ss) && leb (length ss) 8 && areFields 0 ss
+isPath ss = leb 2 (length ss) && leb (length ss) levelCount && areFields 0 ss
 
 -- a line could spell this row: its domain is one of at most so many bytes, and its path is one
 unfoldable pub isRow : ℕ → Row → Bool

@@ -64,11 +64,6 @@ unfolding tableAt
 loadAnswer s ds rs (TableFound t) = wellFormed (tableAt s ds rs t)
 loadAnswer s ds rs (Malformed n) = malformed n
 
--- document 01's number for each
-abbrev pub loadedNumber : lines.TableOutcome → ℕ
-loadedNumber (malformed n) = 7
-loadedNumber (wellFormed t) = 0
-
 -- a table that was answered is in order
 abbrev pub KeptBy : List ℕ → List ℕ → List ℕ → load.TableRead.TableRead → Type 0
 KeptBy s ds rs (TableFound t) = Kept s ds rs t

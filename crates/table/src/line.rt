@@ -1,6 +1,7 @@
 // One line of the table text, by itself: its tag, its domain and its path, each by the rules.
 use chars::parts::part_end;
 use mailaddr::domain::is_domain;
+use oraddr::bounds::LEVELS;
 use oraddr::bounds::OU;
 use oraddr::bounds::OWN_LEVELS;
 use oraddr::bounds::PRMD;
@@ -13,6 +14,7 @@ ghost use lib.Dec.{leb};
 ghost use lib.ListN.{length};
 ghost use Rattle.table.specs.Lines.{areFields, isField, isPath};
 ghost use Rattle.table.specs.Rows.{RowReading, fieldsAt};
+ghost use Rattle.oraddr.specs.Bounds.{levelCount};
 
 // The limits of a table.
 pub const LONGEST_GATEWAY_DOMAIN: usize = 253;
@@ -48,7 +50,7 @@ fn is_field(k: usize, s: &[u8]) -> bool
 // Whether the fields of a path from `at` to `end` may stand for the levels from k on, `left` of them at most.
 fn are_fields(text: &[u8], at: usize, end: usize, k: usize, left: usize) -> bool
     requires { ⌜ end ≤ length (now text) ⌝ }
-    requires { ⌜ k + left ≡ 8 ⌝ }
+    requires { ⌜ k + left ≡ levelCount ⌝ }
     ensures { λ r. ⌜ r ≡ leb (length (fieldsAt (now (text .entry)) at end)) left && areFields k (fieldsAt (now (text .entry)) at end) ⌝ }
 {
     if end < at {
@@ -73,7 +75,7 @@ fn is_path(text: &[u8], at: usize, end: usize) -> bool
     if part_end(&text[..end], at, b'\t') == end {
         return false;
     }
-    are_fields(text, at, end, 0, 8)
+    are_fields(text, at, end, 0, LEVELS)
 }
 
 // The row of a line that starts at `from` and ends at `end`, with the tag and a domain of at most `most` bytes.

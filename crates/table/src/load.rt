@@ -60,7 +60,8 @@ fn add_row(
     requires { ⌜ Kept (now text) (now «to_path») (now «to_domain») table ⌝ }
     requires { ⌜ from ≤ end ⌝ }
     requires { ⌜ end ≤ length (now text) ⌝ }
-    ensures { λ r. ⌜ Adding (now (text .entry)) (tableAt (now (text .entry)) (now («to_path» .entry)) (now («to_domain» .entry)) table) from end r (now («to_path» .exit)) (now («to_domain» .exit)) ⌝ }
+    ensures { λ r. ⌜ Adding (now (text .entry))
+        (tableAt (now (text .entry)) (now («to_path» .entry)) (now («to_domain» .entry)) table) from end r (now («to_path» .exit)) (now («to_domain» .exit)) ⌝ }
 {
     let d = table.to_path;
     let r = table.to_domain;
@@ -97,7 +98,8 @@ fn load_rows(
     requires { ⌜ length (now «to_domain») ≡ rowsSize ⌝ }
     requires { ⌜ RowInside (now text) gateway ⌝ }
     requires { ⌜ from ≤ length (now text) ⌝ }
-    ensures { λ r. ⌜ Loading (now (text .entry)) (readRows 2 (bareTable (rowAt (now (text .entry)) gateway)) (linesFrom (now (text .entry)) from)) r (now («to_path» .exit)) (now («to_domain» .exit)) ⌝ }
+    ensures { λ r. ⌜ Loading (now (text .entry))
+        (readRows 2 (bareTable (rowAt (now (text .entry)) gateway)) (linesFrom (now (text .entry)) from)) r (now («to_path» .exit)) (now («to_domain» .exit)) ⌝ }
 {
     let mut table = Loaded {
         gateway,

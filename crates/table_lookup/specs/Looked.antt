@@ -13,6 +13,7 @@ use Rattle.table_lookup.specs.declared.level.LevelKind.{LevelKind}
 use Rattle.table_lookup.specs.declared.level.LevelKind.the-variants.{Named, Omitted, NotReached}
 use Rattle.table_lookup.specs.declared.lookup.Found.{Found}
 use Rattle.table_lookup.specs.declared.lookup.Found.the-variants.{At, Nowhere}
+use Rattle.oraddr.specs.Bounds.{levelCount}
 
 -- a level is reached, and where it is named it stands in the text
 unfoldable pub isReached : LevelKind → Bool
@@ -34,7 +35,7 @@ tokensFrom s ends k (suc n) = between s (getD ends k 0) (getD ends (suc k) 0) �
 -- the eight levels of a record
 unfoldable pub levelTokens : List ℕ → List ℕ → List Token
 unfolding tokensFrom
-levelTokens s ends = tokensFrom s ends 0 8
+levelTokens s ends = tokensFrom s ends 0 levelCount
 
 -- The ends of n levels are there, in order, and in the text.
 pub record Ended (s ends : List ℕ) (n : ℕ) : Type 0 where

@@ -8,6 +8,7 @@ use Rattle.chars.specs.Lists.{last}
 use Rattle.chars.specs.Case.{foldCase}
 use Rattle.chars.specs.Parts.{join}
 use Rattle.table_lookup.specs.Looked.{tokensFrom}
+use Rattle.oraddr.specs.Bounds.{levelCount}
 
 -- below what the length is kept in a tag, and how many bytes there are
 abbrev pub tagSizes : ℕ
@@ -32,5 +33,5 @@ tagOf s = tagBy (length s) (endByte s)
 
 -- The tags of the paths that the first levels make, one level, two, and so on up to all eight.
 pub record Tagged (s ends tags : List ℕ) : Type 0 where
-  pub size : length tags ≡ 8
-  pub each : (k : ℕ) → k < 8 → getD tags k 0 ≡ tagOf (join 9 (tokensFrom s ends 0 (k + 1)))
+  pub size : length tags ≡ levelCount
+  pub each : (k : ℕ) → k < levelCount → getD tags k 0 ≡ tagOf (join 9 (tokensFrom s ends 0 (k + 1)))

@@ -2,10 +2,10 @@
 // that begins a record's levels. Of rows with one key the last is found, as the definition has it.
 use crate::level::LevelKind;
 use crate::level::level_at;
-use crate::tag::LEVELS;
 use crate::tag::fill_tags;
 use crate::tag::tag_of;
 use chars::case::same_text;
+use oraddr::bounds::LEVELS;
 use table::mark::has_mark;
 use table::rows::row_at;
 ghost use mathlib.Core.Path.{_≡_};
@@ -20,6 +20,7 @@ ghost use Rattle.table_lookup.specs.Lookup.{begins, byDomain, byPath};
 ghost use Rattle.table_lookup.specs.Looked.{Ended, KindInside, Looked, isReached, tokensFrom, levelTokens};
 ghost use Rattle.table.specs.Rows.{Inside, between, fieldsAt};
 ghost use Rattle.table_lookup.specs.Tags.{Tagged};
+ghost use Rattle.oraddr.specs.Bounds.{levelCount};
 
 pub enum Found {
     At(usize),
@@ -145,8 +146,8 @@ fn match_tagged(
     tags: &[usize],
 ) -> usize
     requires { ⌜ (at ≤ end) × (end ≤ length (now text)) ⌝ }
-    requires { ⌜ Ended (now levels) (now ends) 8 × Tagged (now levels) (now ends) (now tags) ⌝ }
-    ensures { λ r. ⌜ r ≡ cond (begins (fieldsAt (now (text .entry)) at end) (tokensFrom (now (levels .entry)) (now (ends .entry)) 0 8)) (0 + length (fieldsAt (now (text .entry)) at end)) 0 ⌝ }
+    requires { ⌜ Ended (now levels) (now ends) levelCount × Tagged (now levels) (now ends) (now tags) ⌝ }
+    ensures { λ r. ⌜ r ≡ cond (begins (fieldsAt (now (text .entry)) at end) (tokensFrom (now (levels .entry)) (now (ends .entry)) 0 levelCount)) (0 + length (fieldsAt (now (text .entry)) at end)) 0 ⌝ }
 {
     let tag = tag_of(&text[at..end]);
     if !has_mark(tags, tag) {
@@ -157,7 +158,7 @@ fn match_tagged(
 
 // The row of the first n whose path is the longest that begins a record's levels.
 pub fn find_path(text: &[u8], rows: &[usize], n: usize, levels: &[u8], ends: &[usize]) -> Found
-    requires { ⌜ Inside (now text) (now rows) n × Ended (now levels) (now ends) 8 ⌝ }
+    requires { ⌜ Inside (now text) (now rows) n × Ended (now levels) (now ends) levelCount ⌝ }
     ensures { λ r. ⌜ Looked byPath (now (text .entry)) (now (rows .entry)) n (levelTokens (now (levels .entry)) (now (ends .entry))) r ⌝ }
 {
     let mut tags = [0usize; LEVELS];

@@ -2,15 +2,14 @@
 // compares the levels of a row only where the row's path has a tag that a path of the record's first levels has: numbers are compared
 // much faster than texts.
 use chars::case::fold_case;
+use oraddr::bounds::LEVELS;
 ghost use mathlib.Core.Path.{_≡_};
 ghost use Prim.Native.Nat.{_+_, _<_};
 ghost use lib.ListN.{length};
 ghost use Rattle.chars.specs.Parts.{join};
 ghost use Rattle.table_lookup.specs.Looked.{Ended, tokensFrom};
 ghost use Rattle.table_lookup.specs.Tags.{Tagged, endByte, tagBy, tagOf};
-
-// How many levels a record has, and so how many paths its first levels make.
-pub const LEVELS: usize = 8;
+ghost use Rattle.oraddr.specs.Bounds.{levelCount};
 
 // Below what the length is kept in a tag, and how many bytes there are.
 const TAG_SIZES: usize = 65536;
@@ -45,7 +44,7 @@ pub fn tag_of(s: &[u8]) -> usize
 
 // The tag of the path that the record's first k + 1 levels make, by where they stand: the path has a tab before each but the first.
 fn path_tag(levels: &[u8], ends: &[usize], k: usize) -> usize
-    requires { ⌜ (k < 8) × Ended (now levels) (now ends) 8 ⌝ }
+    requires { ⌜ (k < levelCount) × Ended (now levels) (now ends) levelCount ⌝ }
     ensures { λ r. ⌜ r ≡ tagOf (join 9 (tokensFrom (now (levels .entry)) (now (ends .entry)) 0 (k + 1))) ⌝ }
 {
     let from = ends[k];
@@ -55,7 +54,7 @@ fn path_tag(levels: &[u8], ends: &[usize], k: usize) -> usize
 
 // Fills in the tags of the paths that the record's first levels make, one for each number of levels.
 pub fn fill_tags(tags: &mut [usize], levels: &[u8], ends: &[usize])
-    requires { ⌜ (length (now tags) ≡ 8) × Ended (now levels) (now ends) 8 ⌝ }
+    requires { ⌜ (length (now tags) ≡ levelCount) × Ended (now levels) (now ends) levelCount ⌝ }
     ensures { λ _. ⌜ Tagged (now (levels .entry)) (now (ends .entry)) (now (tags .exit)) ⌝ }
 {
     let mut k = 0;

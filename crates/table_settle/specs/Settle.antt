@@ -18,6 +18,7 @@ use Rattle.table_lookup.specs.Lookup.{resolve}
 use Rattle.table_settle.specs.declared.settle.Settled.{Settled}
 use Rattle.table_settle.specs.declared.settle.Settled.the-variants.{Levels, NoRow, PastUnits, PastBound}
 use Rattle.table_settle.specs.declared.settle.Settlement.{Settlement}
+use Rattle.oraddr.specs.Bounds.{levelCount}
 
 -- a record before an addition
 abbrev pub begun : Record → Outcome
@@ -49,7 +50,7 @@ unfoldable pub settledFrom : Option (List Token) → Settling
 unfolding settledAs addLevels
 settledFrom none = noRow
 settledFrom (some ts) =
-    cond (ltb 8 (length ts)) pastUnits
+    cond (ltb levelCount (length ts)) pastUnits
     (settledAs (length ts) (addLevels 0 ts (begun emptyRecord)))
 
 -- the levels that a domain settles, by the rows alone

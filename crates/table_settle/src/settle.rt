@@ -3,6 +3,7 @@ use mailaddr::domain::count_parts;
 use mailaddr::domain::part_start;
 use oraddr::add::Added;
 use oraddr::add::Addition;
+use oraddr::bounds::LEVELS;
 use oraddr::bounds::OWN_LEVELS;
 use oraddr::record::Record;
 use table::line::Row;
@@ -21,6 +22,7 @@ ghost use Rattle.table_lookup.specs.Levels.{levelToken};
 ghost use Rattle.table_lookup.specs.Looked.{KindInside};
 ghost use Rattle.table.specs.Rows.{Inside, RowInside, fieldsAt, rowAt, rowsAt};
 ghost use Rattle.table_settle.specs.Settle.{addLevel, addLevels, begun, leftParts, settledAs, settledFrom, settlementAnswer, settling};
+ghost use Rattle.oraddr.specs.Bounds.{levelCount};
 
 // What step 1 comes to. The number of settled levels counts omitted ones too.
 pub enum Settled {
@@ -130,7 +132,7 @@ pub fn add_path(rec: Record, text: &[u8], at: usize, end: usize) -> Addition
 // Adds the parts that a domain has before the part that starts at a place, from the right, at the levels from k on.
 fn add_parts(rec: Record, domain: &[u8], start: usize, k: usize) -> Addition
     requires { ⌜ start ≤ length (now domain) ⌝ }
-    requires { ⌜ k + length (leftParts (now domain) start) ≤ 8 ⌝ }
+    requires { ⌜ k + length (leftParts (now domain) start) ≤ levelCount ⌝ }
     ensures { λ r. ⌜ told r ≡ addLevels k (leftParts (now (domain .entry)) start) (begun rec) ⌝ }
 {
     let mut next = rec;
@@ -181,7 +183,7 @@ fn settled_as(done: Addition, n: usize) -> Settlement
 fn settle_front(done: Addition, domain: &[u8], start: usize, k: usize, n: usize) -> Settlement
     requires { ⌜ start ≤ length (now domain) ⌝ }
     requires { ⌜ n ≡ length (leftParts (now domain) start) ⌝ }
-    requires { ⌜ k + n ≤ 8 ⌝ }
+    requires { ⌜ k + n ≤ levelCount ⌝ }
     ensures { λ r. ⌜ settlementAnswer r ≡ settledAs (k + n) (addLevels k (leftParts (now (domain .entry)) start) (told done)) ⌝ }
 {
     let answer = done.answer;
@@ -196,18 +198,19 @@ fn settle_front(done: Addition, domain: &[u8], start: usize, k: usize, n: usize)
 pub fn settle_row(text: &[u8], row: Row, domain: &[u8]) -> Settlement
     requires { ⌜ RowInside (now text) row ⌝ }
     requires { ⌜ row .«domain_end» - row .domain ≤ length (now domain) ⌝ }
-    ensures { λ r. ⌜ settlementAnswer r ≡ settledFrom (some (rowAt (now (text .entry)) row .path ++ leftParts (now (domain .entry)) (length (now (domain .entry)) - (row .«domain_end» - row .domain)))) ⌝ }
+    ensures { λ r. ⌜ settlementAnswer r ≡ settledFrom
+        (some (rowAt (now (text .entry)) row .path ++ leftParts (now (domain .entry)) (length (now (domain .entry)) - (row .«domain_end» - row .domain)))) ⌝ }
 {
     let at = row.path;
     let end = row.path_end;
     let k = count_levels(text, at, end);
-    if 8 < k {
+    if LEVELS < k {
         return without_record(Settled::PastUnits);
     }
     let own = row.domain_end - row.domain;
     let start = domain.len() - own;
     let n = count_left(domain, start);
-    if 8 - k < n {
+    if LEVELS - k < n {
         return without_record(Settled::PastUnits);
     }
     let done = add_path(Record::empty(), text, at, end);

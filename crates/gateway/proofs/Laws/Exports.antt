@@ -37,7 +37,7 @@ use Rattle.mapping.specs.declared.answers.RecordAnswer.the-variants as record-a
 use Rattle.mapping.specs.declared.answers.ToRecord.{ToRecord}
 use Rattle.mapping.proofs.Laws.Returned.{done-canonical}
 use Rattle.soundness.specs.Check.{CheckResult, Demand3}
-use Rattle.gateway_pack.specs.Filled.{Shown}
+use Rattle.gateway_pack.specs.Filled.{ShownText}
 use Rattle.gateway_pack.specs.Packed.{mostCount, numberLimit, packedCount}
 use Rattle.gateway_text.specs.Texts.{readOutcome, recordOfText}
 use Rattle.gateway_text.proofs.Laws.Texts.{outcome-done, outcome-not}
@@ -168,7 +168,7 @@ tells-sound (malformed n) o old d h = absurd (omega (arith, d .number))
 tells-sound (wellFormed t) o old (inl a) h = inl (record { sound = a .sound; value = refl; buffer = refl })
 tells-sound (wellFormed t) o old (inr r) h = absurd (omega (arith, r .number))
 
-pub tells-witness : (l : TableOutcome) (o : CheckResult) (old new : List ℕ) (n : ℕ) → Demand3 l o → o .number ≡ 8 → Shown (recordText keys (view (o .record'))) old n new
+pub tells-witness : (l : TableOutcome) (o : CheckResult) (old new : List ℕ) (n : ℕ) → Demand3 l o → o .number ≡ 8 → ShownText (recordText keys (view (o .record'))) old n new
     → ExportedCheck l old (8 + numberLimit * n) new
 tells-witness (malformed m) o old new n d h k = absurd (omega (arith, d .number))
 tells-witness (wellFormed t) o old new n (inl a) h k = absurd (omega (arith, a .number))
@@ -189,6 +189,6 @@ check-line table o d = by-table (loadedFrom table) refl d
     by-table (wellFormed t) e (inl a) = omega (arith, a .line)
     by-table (wellFormed t) e (inr r) = omega (arith, r .line)
 
-pub shown-size : (r : Record) (old new : List ℕ) (n : ℕ) → canonicalRecord r ≡ true → Shown (recordText keys (view r)) old n new → n ≤ mostCount
+pub shown-size : (r : Record) (old new : List ℕ) (n : ℕ) → canonicalRecord r ≡ true → ShownText (recordText keys (view r)) old n new → n ≤ mostCount
 unfolding remaining
 shown-size r old new n c k = omega (arith, k .size, text-bound (view r) (canonical-view r c) 0)

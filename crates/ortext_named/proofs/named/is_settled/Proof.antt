@@ -7,7 +7,7 @@ use native.Mathlib.Omega.{arith}
 use lib.Dec.{leb, ltb}
 use borrow.Author.Tests.{le-leb, le-ltb, lt-leb, lt-ltb, ltb-false, ltb-true}
 use Rattle.chars.proofs.Laws.Lists.{by-test}
-use Rattle.ortext_segments.specs.Keys.{ownLevels}
+use Rattle.oraddr.specs.Bounds.{ownLevels}
 use Rattle.ortext_named.proofs.named.is_settled.Statement.{statement}
 use Rattle.ortext_named.proofs.named.is_settled.Tie as tie
 

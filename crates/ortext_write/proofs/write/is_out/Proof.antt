@@ -6,7 +6,7 @@ use native.Mathlib.Omega.{arith}
 use borrow.Author.Tests.{le-ltb, lt-ltb, ltb-true}
 use lib.Dec.{ltb}
 use Rattle.chars.proofs.Laws.Lists.{bool-same}
-use Rattle.ortext_segments.specs.Keys.{ownLevels}
+use Rattle.oraddr.specs.Bounds.{ownLevels}
 use Rattle.ortext_write.proofs.write.is_out.Statement.{statement}
 use Rattle.ortext_write.proofs.write.is_out.Tie as tie
 
