@@ -10,7 +10,7 @@ use Rattle.chars.specs.Case.{equalText}
 use Rattle.chars.specs.Lists.{all}
 use Rattle.chars.specs.Spaces.{isText}
 
--- The entries of the table. The first `singles` are the attributes that a record has once, and their numbers in it.
+-- The entries of the table. The first `singleCount` are the attributes that a record has once, and their numbers in it.
 abbrev pub C : ℕ
 C = 0
 
@@ -56,8 +56,8 @@ bounds = 3 ∷ 16 ∷ 16 ∷ 64 ∷ 40 ∷ 16 ∷ 5 ∷ 3 ∷ 32 ∷ 8 ∷ 128 �
 abbrev pub entries : ℕ
 entries = 12
 
-abbrev pub singles : ℕ
-singles = 8
+abbrev pub singleCount : ℕ
+singleCount = 8
 
 abbrev pub boundOf : ℕ → ℕ
 boundOf k = getD bounds k 0

@@ -7,7 +7,7 @@ use lib.Dec.{leb, eqb}
 use lib.ListN.{length, take, drop, replicate}
 use Rattle.chars.specs.Lists.{all}
 use Rattle.chars.specs.Write.{front}
-use Rattle.oraddr.specs.Bounds.{most, singles, boundOf, O, OU, DD-TYPE, DD-VALUE}
+use Rattle.oraddr.specs.Bounds.{most, singleCount, boundOf, O, OU, DD-TYPE, DD-VALUE}
 use Rattle.oraddr.specs.Attributes.{Attributes, Dd}
 use Rattle.oraddr.specs.declared.value.Value.{Value}
 use Rattle.oraddr.specs.declared.value.OrgUnit.{OrgUnit}
@@ -124,7 +124,7 @@ abbrev pub emptyRecord : Record
 unfolding valueOf orgUnitOf domainDefinedOf
 emptyRecord =
     record {
-      singles = record { values = replicate singles (valueOf []) };
+      singles = record { values = replicate singleCount (valueOf []) };
       units = record { count = 0; names = replicate most (orgUnitOf []) };
       dds = record { count = 0; items = replicate most (domainDefinedOf [] []) };
     }

@@ -26,7 +26,7 @@ ghost use mathlib.Core.Path.{_≡_};
 ghost use Prim.Native.Nat.{_<_, _≤_};
 ghost use lib.ListN.{length};
 ghost use Rattle.oraddr.specs.Add.{addDd, addSingle, addUnit, placeOf, pushDd, pushUnit, setSingle, told};
-ghost use Rattle.oraddr.specs.Bounds.{boundOf, most, singles};
+ghost use Rattle.oraddr.specs.Bounds.{boundOf, most, singleCount};
 ghost use Rattle.oraddr.specs.Bounds.{O as O-BOUND, OU as OU-BOUND};
 
 // An attribute that a record has once.
@@ -71,7 +71,7 @@ pub fn place(a: Attribute) -> usize
 
 impl Singles {
     fn with(mut self, k: usize, value: &[u8]) -> Singles
-        requires { ⌜ k < singles ⌝ }
+        requires { ⌜ k < singleCount ⌝ }
         requires { ⌜ length (now value) ≤ boundOf O-BOUND ⌝ }
         ensures { λ r. ⌜ r ≡ setSingle self k (now (value .entry)) ⌝ }
     {
@@ -108,7 +108,7 @@ impl Dds {
 impl Record {
     // Adds the attribute with the number k, which a record has once.
     pub fn with_single(mut self, k: usize, value: &[u8]) -> Addition
-        requires { ⌜ k < singles ⌝ }
+        requires { ⌜ k < singleCount ⌝ }
         ensures { λ r. ⌜ told r ≡ addSingle self k (now (value .entry)) ⌝ }
     {
         if !keeps_rule(k, value) {

@@ -19,7 +19,7 @@ ghost use Prim.Native.Nat.{_<_};
 ghost use lib.ListN.{getD, length};
 ghost use mathlib.Core.List.{[]};
 ghost use Rattle.oraddr.specs.Attributes.{levels, noDd, singleOf, unitOf};
-ghost use Rattle.oraddr.specs.Bounds.{levelCount, singles};
+ghost use Rattle.oraddr.specs.Bounds.{levelCount, singleCount};
 ghost use Rattle.oraddr.specs.View.{ddView, ddsView, emptyRecord, unitView, unitsView, valueOf, valueView, view};
 
 // The attributes that a record has once, by their numbers in the table of bounds.
@@ -97,7 +97,7 @@ fn no_dd() -> DomainDefined
 impl Singles {
     // The value with the number k.
     pub fn value(self, k: usize) -> Value
-        requires { ⌜ k < singles ⌝ }
+        requires { ⌜ k < singleCount ⌝ }
         ensures { λ r. ⌜ r ≡ getD (self .values) k (valueOf []) ⌝ }
     {
         self.values[k]
@@ -150,7 +150,7 @@ impl Record {
 
     // The value of the attribute with the number k, which a record has once.
     pub fn single(self, k: usize) -> Value
-        requires { ⌜ k < singles ⌝ }
+        requires { ⌜ k < singleCount ⌝ }
         ensures { λ r. ⌜ valueView r ≡ singleOf (view self) k ⌝ }
     {
         let singles = self.singles;

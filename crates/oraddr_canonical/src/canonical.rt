@@ -27,7 +27,7 @@ ghost use lib.Dec.{leb};
 ghost use lib.ListN.{length, take};
 ghost use Rattle.chars.specs.Lists.{nonEmpty};
 ghost use Rattle.oraddr.specs.Attributes.{singleOf};
-ghost use Rattle.oraddr.specs.Bounds.{O as O-BOUND, OU as OU-BOUND, boundOf, entries, isValue, singles};
+ghost use Rattle.oraddr.specs.Bounds.{O as O-BOUND, OU as OU-BOUND, boundOf, entries, isValue, singleCount};
 ghost use Rattle.oraddr.specs.Canonical.{canonicalDds, canonicalRecord, canonicalSingles, canonicalUnits, identified, isDd, isUnit, kept, namesWithSurname};
 ghost use Rattle.oraddr.specs.View.{ddInRange, ddView, unitView, valueView, view};
 
@@ -45,7 +45,7 @@ fn is_held(k: usize, room: &[u8], len: usize) -> bool
 
 // In range, and absent or by the rule of the attribute with the number k.
 fn is_kept(k: usize, value: Value) -> bool
-    requires { ⌜ k < singles ⌝ }
+    requires { ⌜ k < singleCount ⌝ }
     ensures { λ r. ⌜ r ≡ (leb (value .len) (boundOf O-BOUND) && kept k (valueView value)) ⌝ }
 {
     let len = value.len;
@@ -128,7 +128,7 @@ fn canonical_dds(dds: Dds) -> bool
 
 // Whether the attribute with the number k is present.
 fn has(rec: Record, k: usize) -> bool
-    requires { ⌜ k < singles ⌝ }
+    requires { ⌜ k < singleCount ⌝ }
     ensures { λ r. ⌜ r ≡ nonEmpty (singleOf (view rec) k) ⌝ }
 {
     0 < rec.single(k).size()

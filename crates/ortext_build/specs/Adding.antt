@@ -9,7 +9,7 @@ use lib.Dec.{eqb}
 use lib.ListN.{length, take}
 use Rattle.chars.specs.Lists.{nonEmpty}
 use Rattle.oraddr.specs.Attributes.{Dd}
-use Rattle.oraddr.specs.Bounds.{S, singles}
+use Rattle.oraddr.specs.Bounds.{S, singleCount}
 use Rattle.oraddr.specs.Add.{Outcome, addSingle, addUnit, addDd}
 use Rattle.oraddr.specs.declared.record.Record.{Record}
 use Rattle.ortext_name.specs.Name.{Name, readName}
@@ -69,7 +69,7 @@ unfolding addName readName spanText
 addPn s p r = cond (isAbsent p) (start r) (addName r (readName (spanText s p)))
 
 abbrev pub heldSingles : List ℕ → Named → List (List ℕ)
-heldSingles s m = map (spanText s) (take singles (m .once))
+heldSingles s m = map (spanText s) (take singleCount (m .once))
 
 abbrev pub heldUnits : List ℕ → Named → List (List ℕ)
 heldUnits s m = reverse (map (spanText s) (take (m .«unit_count») (m .units)))

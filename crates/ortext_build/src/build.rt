@@ -24,7 +24,7 @@ ghost use mathlib.Core.Option.{some};
 ghost use Prim.Native.Nat.{_+_, _*_, _<_, _≤_};
 ghost use lib.Dec.{eqb};
 ghost use lib.ListN.{drop, getD, length, take};
-ghost use Rattle.oraddr.specs.Bounds.{I, singles};
+ghost use Rattle.oraddr.specs.Bounds.{I, singleCount};
 ghost use Rattle.oraddr.specs.Add.{addDd, addUnit, told};
 ghost use Rattle.ortext_build.specs.Adding.{addDds, addSingles, addUnits, Fronted, addHeld, addName, addPn, ddAt, done, start};
 ghost use Rattle.ortext_name.specs.Places.{Placed, lettersAt, nameAt};
@@ -68,7 +68,7 @@ fn unquote(dst: &mut [u8], s: &[u8], span: Span) -> usize
 
 // Adds the attribute with the number k; an empty value is absent.
 fn add_value(rec: Record, k: usize, value: &[u8]) -> Addition
-    requires { ⌜ k < singles ⌝ }
+    requires { ⌜ k < singleCount ⌝ }
     ensures { λ r. ⌜ told r ≡ addSingles k (now (value .entry) ∷ []) (start rec) ⌝ }
 {
     if value.len() == 0 {
@@ -82,7 +82,7 @@ fn add_value(rec: Record, k: usize, value: &[u8]) -> Addition
 
 // Adds the attribute with the number k that a text names at a span; where it names none, nothing.
 fn add_single(rec: Record, s: &[u8], k: usize, span: Span) -> Addition
-    requires { ⌜ k < singles ⌝ }
+    requires { ⌜ k < singleCount ⌝ }
     requires { ⌜ Sound (now s) span ⌝ }
     ensures { λ r. ⌜ told r ≡ addSingles k (spanText (now (s .entry)) span ∷ []) (start rec) ⌝ }
 {
@@ -162,7 +162,7 @@ fn add_dd(rec: Record, s: &[u8], places: DdPlaces) -> Addition
 // Adds the attributes that a text names once, but for PN.
 fn add_singles(rec: Record, s: &[u8], named: Named) -> Addition
     requires { ⌜ AllSound (now s) named ⌝ }
-    ensures { λ r. ⌜ told r ≡ addSingles 0 (map (spanText (now (s .entry))) (take singles (named .once))) (start rec) ⌝ }
+    ensures { λ r. ⌜ told r ≡ addSingles 0 (map (spanText (now (s .entry))) (take singleCount (named .once))) (start rec) ⌝ }
 {
     let mut next = rec;
     let mut k = 0;

@@ -12,7 +12,7 @@ use Rattle.chars.specs.Case.{sameText}
 use Rattle.chars.specs.Parts.{isPart}
 use Rattle.ortext_segments.specs.declared.keys.KeyName.{KeyName}
 
--- The numbers of keys: first the attributes that a record has once (`singles`), by their numbers in the table of bounds; then these.
+-- The numbers of keys: first the attributes that a record has once (`singleCount`), by their numbers in the table of bounds; then these.
 abbrev pub OU-KEY : ℕ
 OU-KEY = 8
 

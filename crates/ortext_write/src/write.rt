@@ -33,7 +33,7 @@ ghost use lib.ListN.{drop, getD, length, take};
 ghost use Rattle.chars.specs.Lists.{all, nonEmpty};
 ghost use Rattle.chars.specs.Write.{Wrote};
 ghost use Rattle.oraddr.specs.View.{ddView, ddsView, unitView, unitsView, valueView, view};
-ghost use Rattle.oraddr.specs.Bounds.{ownLevels, singles};
+ghost use Rattle.oraddr.specs.Bounds.{ownLevels, singleCount};
 ghost use Rattle.ortext_segments.specs.Keys.{OU-KEY, PN-KEY, keyCount, keys};
 ghost use Rattle.ortext_name.specs.Name.{isShort, nameText};
 ghost use Rattle.ortext_write.specs.Write.{ddSegment, hasShort, joined, keyValue, localText, longDd, onlyName, order, plainSegment, quoted, recordText, remaining, segmentText, segmentsAt, segmentsIn, writesShort};
@@ -182,7 +182,7 @@ fn put_units(dst: &mut [u8], at: usize, units: Units, from: usize) -> usize
 
 // Writes an attribute that a record has once, if it is there.
 fn put_single(dst: &mut [u8], at: usize, rec: Record, k: usize) -> usize
-    requires { ⌜ k < singles ⌝ }
+    requires { ⌜ k < singleCount ⌝ }
     requires { ⌜ at + length (joined keys (segmentsAt (view rec) k)) ≤ length (now dst) ⌝ }
     ensures { λ r. ⌜ Wrote (now (dst .entry)) at (joined keys (segmentsAt (view rec) k)) r (now (dst .exit)) ⌝ }
 {

@@ -19,7 +19,7 @@ use Rattle.chars.proofs.Laws.Lists.{all-at, and-left, and-right, by-test, or-ca
 use Rattle.chars.proofs.Laws.Case.{equal-path}
 use Rattle.chars.proofs.Laws.Seq.{map-set}
 use Rattle.oraddr.specs.Attributes.{Attributes, levels, singleOf, unitOf}
-use Rattle.oraddr.specs.Bounds.{ADMD, C, C-LETTERS, O, bounds, boundOf, isCountry, isSpace, isValue, levelCount, most, ownLevels, rule, singles}
+use Rattle.oraddr.specs.Bounds.{ADMD, C, C-LETTERS, O, bounds, boundOf, isCountry, isSpace, isValue, levelCount, most, ownLevels, rule, singleCount}
 use Rattle.oraddr.specs.Add.{outcome, placeOf, pushDd, pushUnit, setSingle}
 use Rattle.oraddr.specs.declared.add.Attribute as attribute
 use Rattle.oraddr.specs.declared.add.Attribute.{Attribute}
@@ -33,7 +33,7 @@ use Rattle.oraddr.proofs.Laws.Text.{view-dd, view-unit, view-value}
 -- ---- what a rule says of the length
 
 -- an attribute that a record has once has one of the first numbers
-pub place-low : (a : Attribute) → placeOf a < singles
+pub place-low : (a : Attribute) → placeOf a < singleCount
 place-low attribute.the-variants.C = lit< tt
 place-low attribute.the-variants.Admd = lit< tt
 place-low attribute.the-variants.Prmd = lit< tt
@@ -48,12 +48,12 @@ unfolding isValue
 value-length k v h = leb-true (length v) (boundOf k) (and-left (leb (length v) (boundOf k)) (isText v) h)
 
 -- an attribute that a record has once fits the room for one
-single-room : (k : ℕ) → k < singles → boundOf k ≤ boundOf O
+single-room : (k : ℕ) → k < singleCount → boundOf k ≤ boundOf O
 unfolding all
 single-room k h =
     leb-true (boundOf k) (boundOf O)
-    (ap (λ b. leb b (boundOf O)) (sym (getD-take singles bounds k 0 h))
-    ∙ all-at (λ b. leb b (boundOf O)) (take singles bounds) k 0 refl h)
+    (ap (λ b. leb b (boundOf O)) (sym (getD-take singleCount bounds k 0 h))
+    ∙ all-at (λ b. leb b (boundOf O)) (take singleCount bounds) k 0 refl h)
 
 country-length : (v : List ℕ) → isCountry v ≡ true → length v ≤ boundOf O
 unfolding isCountry
@@ -66,7 +66,7 @@ space-length : (v : List ℕ) → isSpace v ≡ true → length v ≤ boundOf O
 unfolding isSpace
 space-length v h = omega (arith, ap length (equal-path v (32 ∷ []) h))
 
-pub rule-length : (k : ℕ) (v : List ℕ) → rule k v ≡ true → k < singles → length v ≤ boundOf O
+pub rule-length : (k : ℕ) (v : List ℕ) → rule k v ≡ true → k < singleCount → length v ≤ boundOf O
 unfolding rule
 rule-length k v h l =
     by-test (eqb k C)
@@ -89,7 +89,7 @@ module _ {A : Type 0} where
   getD-filled (x ∷ l) n zero d = refl
   getD-filled (x ∷ l) n (suc j) d = getD-filled l n j d
 
-module _ (a : Attributes) (k : ℕ) (l : length (a .single) ≡ singles) where
+module _ (a : Attributes) (k : ℕ) (l : length (a .single) ≡ singleCount) where
   own : length (take ownLevels (a .single)) ≡ ownLevels
   own = length-take-le ownLevels (a .single) (omega arith)
 
@@ -114,14 +114,14 @@ module _ (a : Attributes) (k : ℕ) (l : length (a .single) ≡ singles) where
 
 -- ---- the empty record
 
-pub view-empty : view emptyRecord ≡ record { single = replicate singles []; units = []; dds = [] }
+pub view-empty : view emptyRecord ≡ record { single = replicate singleCount []; units = []; dds = [] }
 unfolding view singlesView unitsView ddsView valueView valueOf orgUnitOf domainDefinedOf kindOf ddValueOf front
 view-empty = refl
 
 -- ---- the attributes after an addition
 
 pub view-set-single : (r : Record) (k : ℕ) (v : List ℕ)
-    → view (record { singles = setSingle (r .singles) k v; units = r .units; dds = r .dds })
+    → view (record { singleCount = setSingle (r .singles) k v; units = r .units; dds = r .dds })
     ≡ record { single = set (view r .single) k v; units = view r .units; dds = view r .dds }
 unfolding view singlesView setSingle
 view-set-single r k v = rw (map-set valueView (r .singles .values) k (valueOf v), view-value v)

@@ -15,7 +15,7 @@ use Rattle.chars.specs.Lists.{nonEmpty}
 use Rattle.chars.proofs.Laws.Lists.{and-both, and-left, and-right, by-test, or-left, or-right, true-not-false}
 use Rattle.chars.proofs.Laws.Seq.{some-length}
 use Rattle.oraddr.specs.Attributes.{Dd}
-use Rattle.oraddr.specs.Bounds.{DD-TYPE, DD-VALUE, G, I, O, OU, S, boundOf, isValue, most, rule, singles}
+use Rattle.oraddr.specs.Bounds.{DD-TYPE, DD-VALUE, G, I, O, OU, S, boundOf, isValue, most, rule, singleCount}
 use Rattle.oraddr.specs.Canonical.{allKept, isDd, isUnit, kept}
 use Rattle.oraddr.specs.Add.{Outcome, addDd, addSingle, addUnit, numberOf, outcome, pushDd, pushUnit, told}
 use Rattle.oraddr.specs.declared.add.Added.the-variants.{Done, Refused}
@@ -78,13 +78,13 @@ dds-stop (d ∷ ds) o h = rw h (dds-stop ds o h)
 pub not-kept : (b : Bool) → (b ≡ true → ⊥) → b ≡ false
 not-kept b f = by-test b (λ e. absurd (f e)) (λ e. e)
 
-add-long : (r : Record) (k : ℕ) (v : List ℕ) → k < singles → boundOf O < length v → addSingle r k v ≡ record { number = 4; record' = r }
+add-long : (r : Record) (k : ℕ) (v : List ℕ) → k < singleCount → boundOf O < length v → addSingle r k v ≡ record { number = 4; record' = r }
 unfolding addSingle
 add-long r k v l h =
     outcome-refused (rule k v && eqb (getD (r .singles .values) k (valueOf []) .len) 0) _ r
     (ap (λ b. b && eqb (getD (r .singles .values) k (valueOf []) .len) 0) (not-kept (rule k v) (λ e. omega (arith, rule-length k v e l))))
 
-pub single-long : (r : Record) (k : ℕ) (v : List ℕ) → k < singles → boundOf O < length v → record { number = 4; record' = r } ≡ addSingles k (v ∷ []) (start r)
+pub single-long : (r : Record) (k : ℕ) (v : List ℕ) → k < singleCount → boundOf O < length v → record { number = 4; record' = r } ≡ addSingles k (v ∷ []) (start r)
 unfolding addSingles andThen
 single-long r k v l h = sym (singles-some k v [] (start r) (some-length v (omega arith)) ∙ add-long r k v l h)
 

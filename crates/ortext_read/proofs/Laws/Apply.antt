@@ -13,7 +13,7 @@ use Rattle.chars.specs.Lists.{all, nonEmpty}
 use Rattle.chars.proofs.Laws.Lists.{and-left, and-right, by-test, or-right}
 use Rattle.chars.specs.Case.{agree, equalText}
 use Rattle.chars.proofs.Laws.Seq.{absent-is, some-test}
-use Rattle.oraddr.specs.Bounds.{ADMD, C, isSpace, isValue, most, rule, singles}
+use Rattle.oraddr.specs.Bounds.{ADMD, C, isSpace, isValue, most, rule, singleCount}
 use Rattle.oraddr.specs.Attributes.{Attributes, Dd, singleOf}
 use Rattle.oraddr.specs.Canonical.{allKept, isDd, isUnit, kept}
 use Rattle.oraddr.specs.Add.{Outcome, addDd, addSingle, addUnit, setSingle}
@@ -76,11 +76,11 @@ pub record Holds (o : Outcome) (b : Attributes) : Type 0 where
 made-at : (r : Record) → Made r → (k : ℕ) (v : List ℕ) → Made (addSingle r k v .record')
 unfolding addSingle setSingle
 made-at r m k v =
-    by-test (ltb k singles)
-    (λ e. made-single r m k v (ltb-true k singles e))
+    by-test (ltb k singleCount)
+    (λ e. made-single r m k v (ltb-true k singleCount e))
     (λ e. outcome-keeps Made (rule k v && eqb (getD (r .singles .values) k (valueOf []) .len) 0)
     (record { singles = record { values = set (r .singles .values) k (valueOf v) }; units = r .units; dds = r .dds }) r
-    (λ _. rw (set-out (r .singles .values) k (valueOf v) (omega (arith, m .shaped .values, ltb-false k singles e))) m)
+    (λ _. rw (set-out (r .singles .values) k (valueOf v) (omega (arith, m .shaped .values, ltb-false k singleCount e))) m)
     m)
 
 module _ (o : Outcome) (b : Attributes) (h : Holds o b) where

@@ -14,7 +14,7 @@ use lib.Seq.{getD-set-other, getD-set-same, take-suc-set}
 use Rattle.chars.specs.Lists.{all, nonEmpty}
 use Rattle.chars.specs.Parts.{run}
 use Rattle.chars.proofs.Laws.Lists.{all-append, and-left, and-right, by-test, true-not-false}
-use Rattle.oraddr.specs.Bounds.{most, ownLevels, singles}
+use Rattle.oraddr.specs.Bounds.{most, ownLevels, singleCount}
 use Rattle.ortext_segments.specs.Keys.{DD-KEY, OU-KEY, PN-KEY}
 use Rattle.ortext_name.specs.Name.{afterGiven, afterInitials, hasGiven, readName}
 use Rattle.ortext_segments.specs.Segments.{Segment, unknown}
@@ -65,9 +65,9 @@ no-name gs rest e = rw e
 empty-first : (gs : List Segment) (k : ℕ) (rest : List (List ℕ)) → Once k → valuesAt k gs ≡ [] ∷ rest → named gs ≡ none
 unfolding all nonEmpty
 empty-first gs k rest o e =
-    by-test (ltb k singles)
-    (λ l. empty-none gs k (ltb-true k singles l) (ap (all nonEmpty) e))
-    (λ l. let q : k ≡ PN-KEY = omega (arith, ltb-false k singles l, o .low, o .no-unit, o .no-dd) in
+    by-test (ltb k singleCount)
+    (λ l. empty-none gs k (ltb-true k singleCount l) (ap (all nonEmpty) e))
+    (λ l. let q : k ≡ PN-KEY = omega (arith, ltb-false k singleCount l, o .low, o .no-unit, o .no-dd) in
     nameless-none gs (no-name gs rest (rw q at e)))
 
 -- ---- a further segment whose key is no settled level's

@@ -12,7 +12,7 @@ use lib.ListN.{length, take, drop, getD, drop-of-length-le}
 use lib.Seq.{append-snoc}
 use Rattle.chars.specs.Lists.{all, nonEmpty}
 use Rattle.chars.proofs.Laws.Lists.{and-both, by-test, or-left, or-right, true-not-false}
-use Rattle.oraddr.specs.Bounds.{ADMD, C, G, GQ, I, O, PRMD, S, singles}
+use Rattle.oraddr.specs.Bounds.{ADMD, C, G, GQ, I, O, PRMD, S, singleCount}
 use Rattle.oraddr.specs.Add.{Outcome}
 use Rattle.oraddr.specs.declared.record.Record.{Record}
 use Rattle.ortext_segments.specs.Keys.{OU-KEY, PN-KEY, keys}
@@ -35,7 +35,7 @@ use Rattle.ortext_read.proofs.Laws.Held.{Once, Places, Fair, Held, held
 
 -- ---- the attributes that stand once
 
-take-eight : {A : Type 0} (l : List A) (d : A) → singles ≤ length l → take singles l ≡ getD l 0 d ∷ getD l 1 d ∷ getD l 2 d ∷ getD l 3 d ∷ getD l 4 d ∷ getD l 5 d ∷ getD l 6 d ∷ getD l 7 d ∷ []
+take-eight : {A : Type 0} (l : List A) (d : A) → singleCount ≤ length l → take singleCount l ≡ getD l 0 d ∷ getD l 1 d ∷ getD l 2 d ∷ getD l 3 d ∷ getD l 4 d ∷ getD l 5 d ∷ getD l 6 d ∷ getD l 7 d ∷ []
 take-eight [] d h = absurd (omega arith)
 take-eight (a ∷ []) d h = absurd (omega arith)
 take-eight (a ∷ b ∷ []) d h = absurd (omega arith)
@@ -46,7 +46,7 @@ take-eight (a ∷ b ∷ c ∷ e ∷ f ∷ g ∷ []) d h = absurd (omega arith)
 take-eight (a ∷ b ∷ c ∷ e ∷ f ∷ g ∷ i ∷ []) d h = absurd (omega arith)
 take-eight (a ∷ b ∷ c ∷ e ∷ f ∷ g ∷ i ∷ j ∷ l) d h = refl
 
-single-once : (k : ℕ) → k < singles → Once k
+single-once : (k : ℕ) → k < singleCount → Once k
 single-once k h = record { low = omega arith; no-unit = λ e. omega arith; no-dd = λ e. omega arith }
 
 pn-once : Once PN-KEY
@@ -145,7 +145,7 @@ module _ (s : List ℕ) (m : Named) (h : AllSound s m) (gs : List Segment) (p : 
   once-each : (P : ℕ → Bool) → ((k : ℕ) → Once k → P k ≡ true) → all P singleKeys ≡ true
   unfolding all
   once-each P f =
-      let g : (k : ℕ) → k < singles → P k ≡ true = λ k l. f k (single-once k l) in
+      let g : (k : ℕ) → k < singleCount → P k ≡ true = λ k l. f k (single-once k l) in
       and-both (g 0 (omega arith)) (and-both (g 1 (omega arith)) (and-both (g 2 (omega arith)) (and-both (g 3 (omega arith)) (and-both (g 4 (omega arith)) (and-both (g 5 (omega arith)) (and-both (g 6 (omega arith)) (and-both (g 7 (omega arith)) refl)))))))
 
   no-repeated : hasRepeated gs ≡ false
@@ -167,7 +167,7 @@ module _ (s : List ℕ) (m : Named) (h : AllSound s m) (gs : List Segment) (p : 
   eight : heldSingles s m ≡ at 0 ∷ at 1 ∷ at 2 ∷ at 3 ∷ at 4 ∷ at 5 ∷ at 6 ∷ at 7 ∷ []
   eight = ap (map (spanText s)) (take-eight (m .once) noSpan (omega (arith, h .once-room)))
 
-  single : (k : ℕ) → k < singles → valueAt k gs ≡ at k
+  single : (k : ℕ) → k < singleCount → valueAt k gs ≡ at k
   single k l = value k (single-once k l)
 
   -- all that is added, by its parts

@@ -12,7 +12,7 @@ use lib.ListN.{length, length-reverse}
 use Rattle.chars.specs.Lists.{all, member, nonEmpty}
 use Rattle.chars.proofs.Laws.Lists.{all-member, by-test, or-left, or-right, true-not-false}
 use Rattle.oraddr.specs.Attributes.{Attributes}
-use Rattle.oraddr.specs.Bounds.{ADMD, C, GQ, O, PRMD, most, singles}
+use Rattle.oraddr.specs.Bounds.{ADMD, C, GQ, O, PRMD, most, singleCount}
 use Rattle.oraddr.specs.declared.record.Record.{Record}
 use Rattle.ortext_segments.specs.Keys.{DD-KEY, OU-KEY, PN-KEY}
 use Rattle.ortext_name.specs.Name.{Name}
@@ -81,7 +81,7 @@ key-member (suc (suc (suc (suc (suc (suc (suc (suc (suc zero))))))))) h a b = ab
 key-member (suc (suc (suc (suc (suc (suc (suc (suc (suc (suc zero)))))))))) h a b = refl
 key-member (suc (suc (suc (suc (suc (suc (suc (suc (suc (suc (suc k))))))))))) h a b = absurd (omega arith)
 
-single-member : (k : ℕ) → k < singles → member k singleKeys ≡ true
+single-member : (k : ℕ) → k < singleCount → member k singleKeys ≡ true
 unfolding member
 single-member zero h = refl
 single-member (suc zero) h = refl
@@ -104,7 +104,7 @@ repeated-none gs k l a b h =
     let r : hasRepeated gs ≡ true = ap not (not-kept (all p (PN-KEY ∷ singleKeys)) (λ e. omega (arith, leb-true (length (valuesAt k gs)) 1 (all-member p (PN-KEY ∷ singleKeys) k e (key-member k l a b))))) in
     named-none gs (or-left (hasUnknown gs || hasRepeated gs || pnMeets gs) (hasEmpty gs) (or-left (hasUnknown gs || hasRepeated gs) (pnMeets gs) (or-right (hasUnknown gs) (hasRepeated gs) r)))
 
-pub empty-none : (gs : List Segment) (k : ℕ) → k < singles → all nonEmpty (valuesAt k gs) ≡ false → named gs ≡ none
+pub empty-none : (gs : List Segment) (k : ℕ) → k < singleCount → all nonEmpty (valuesAt k gs) ≡ false → named gs ≡ none
 unfolding hasEmpty
 empty-none gs k l h =
     let p : ℕ → Bool = λ j. all nonEmpty (valuesAt j gs) in

@@ -16,7 +16,7 @@ use Rattle.chars.specs.Lists.{all, nonEmpty}
 use Rattle.chars.specs.Case.{agree, sameText}
 use Rattle.chars.proofs.Laws.Lists.{all-drop, and-both, and-left, and-right, and-three, by-test, true-not-false}
 use Rattle.chars.proofs.Laws.Case.{agree-append, agree-length, agree-refl, equal-refl, same-refl}
-use Rattle.oraddr.specs.Bounds.{ADMD, GQ, most, ownLevels, singles}
+use Rattle.oraddr.specs.Bounds.{ADMD, GQ, most, ownLevels, singleCount}
 use Rattle.oraddr.specs.Attributes.{Attributes, Dd, levels, singleOf}
 use Rattle.oraddr.specs.Canonical.{allKept, canonical, isUnit, kept}
 use Rattle.oraddr.specs.Same.{sameAttributes, sameDd}
@@ -114,7 +114,7 @@ module _ {A : Type 0} where
   take-min (suc i) (suc j) [] = sym (take-nil (min (suc i) (suc j)))
   take-min (suc i) (suc j) (x ∷ s) = ap (λ t. x ∷ t) (take-min i j s) ∙ take-same (suc (min i j)) (min (suc i) (suc j)) (x ∷ s) (omega arith)
 
-module _ (n : ℕ) (a : Attributes) (l : length (a .single) ≡ singles) where
+module _ (n : ℕ) (a : Attributes) (l : length (a .single) ≡ singleCount) where
   own : length (take ownLevels (a .single)) ≡ 4
   own = length-take-le 4 (a .single) (omega arith)
 
@@ -144,7 +144,7 @@ backed n st a =
       dds = a .dds;
     }
 
-module _ {n : ℕ} {st : List (List ℕ)} {a : Attributes} {r : Record} (q : Settled n st a r) (l : length (a .single) ≡ singles) where
+module _ {n : ℕ} {st : List (List ℕ)} {a : Attributes} {r : Record} (q : Settled n st a r) (l : length (a .single) ≡ singleCount) where
   front-length : length (take ownLevels st) ≡ min n ownLevels
   front-length = omega (arith, length-take ownLevels st, q .count)
 
@@ -195,7 +195,7 @@ pub record ReadsAs (o : Reading) (a : Attributes) : Type 0 where
   pub made : Made result
   pub same : sameAttributes (view result) a ≡ true
 
-module _ {n : ℕ} {st : List (List ℕ)} {a : Attributes} {r : Record} (q : Settled n st a r) (l : length (a .single) ≡ singles) (h : canonical a ≡ true) where
+module _ {n : ℕ} {st : List (List ℕ)} {a : Attributes} {r : Record} (q : Settled n st a r) (l : length (a .single) ≡ singleCount) (h : canonical a ≡ true) where
   -- what is left, added to what is settled; ADMD is there, so completing changes nothing
   left-added : ReadsAs (addNamed r (some (remaining n a))) a
   unfolding addNamed finish
@@ -261,7 +261,7 @@ last-four s l =
     rw (drop-cons s 4 [] (omega arith), drop-cons s 5 [] (omega arith), drop-cons s 6 [] (omega arith), drop-cons s 7 [] (omega arith), drop-of-length-le s {i = 8} (omega arith))
 
 -- where only a name is left and it is short, the name says all
-only-name : (b : Attributes) → length (b .single) ≡ singles → writesShort b ≡ true → nameAlone (nameIn b) ≡ b
+only-name : (b : Attributes) → length (b .single) ≡ singleCount → writesShort b ≡ true → nameAlone (nameIn b) ≡ b
 unfolding writesShort onlyName nameAlone nameIn singleOf
 only-name b l h =
     let s = b .single in
@@ -279,7 +279,7 @@ only-name b l h =
 
 -- ---- the theorem
 
-module _ (ks : Keys) (n : ℕ) (st : List (List ℕ)) (a : Attributes) (r : Record) (q : Settled n st a r) (l : length (a .single) ≡ singles) (h : canonical a ≡ true) where
+module _ (ks : Keys) (n : ℕ) (st : List (List ℕ)) (a : Attributes) (r : Record) (q : Settled n st a r) (l : length (a .single) ≡ singleCount) (h : canonical a ≡ true) where
   -- record text gives what is left, the types of the DDs perhaps in other letters
   by-text : goodKeys ks ≡ true → ReadsAs (readLocal ks n r (recordText ks (remaining n a))) a
   unfolding levels remaining spelledAttributes readLocal orName
@@ -327,6 +327,6 @@ module _ (ks : Keys) (n : ℕ) (st : List (List ℕ)) (a : Attributes) (r : Reco
       (λ e. subst (λ (t : Bool). ReadsAs (readLocal ks n r (cond t (nameText (nameIn b)) (recordText ks b))) a) (sym e) (by-text good))
 
 -- the same of the keys of document 01
-pub local-back : (n : ℕ) (st : List (List ℕ)) (a : Attributes) (r : Record) → Settled n st a r → length (a .single) ≡ singles → canonical a ≡ true
+pub local-back : (n : ℕ) (st : List (List ℕ)) (a : Attributes) (r : Record) → Settled n st a r → length (a .single) ≡ singleCount → canonical a ≡ true
     → ReadsAs (readLocal keys n r (localText keys (remaining n a))) a
 local-back n st a r q l h = comes-back keys n st a r q l h keys-good

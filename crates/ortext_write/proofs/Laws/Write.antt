@@ -21,7 +21,7 @@ use Rattle.chars.proofs.Laws.Class.{digit-printable, letter-printable}
 use Rattle.chars.proofs.Laws.Case.{equal-path}
 use Rattle.chars.proofs.Laws.Seq.{no-length, some-length}
 use Rattle.oraddr.specs.Attributes.{Attributes, Dd, singleOf}
-use Rattle.oraddr.specs.Bounds.{ADMD, C, C-LETTERS, DD-TYPE, DD-VALUE, G, GQ, I, O, OU, PRMD, S, boundOf, isCountry, isSpace, isValue, ownLevels, rule, singles}
+use Rattle.oraddr.specs.Bounds.{ADMD, C, C-LETTERS, DD-TYPE, DD-VALUE, G, GQ, I, O, OU, PRMD, S, boundOf, isCountry, isSpace, isValue, ownLevels, rule, singleCount}
 use Rattle.oraddr.specs.Canonical.{allKept, canonical, isDd, isUnit, kept}
 use Rattle.oraddr.proofs.Laws.Canonical.{canonical-parts}
 use Rattle.oraddr.proofs.Laws.View.{value-length}
@@ -114,11 +114,11 @@ joined-in ks a (k ∷ l) = joined-append ks (segmentsAt a k) (segmentsIn a l) �
 
 -- ---- what a record has for one key
 
-pub single-none : (ks : Keys) (a : Attributes) (k : ℕ) → k < singles → singleOf a k ≡ [] → joined ks (segmentsAt a k) ≡ []
+pub single-none : (ks : Keys) (a : Attributes) (k : ℕ) → k < singleCount → singleOf a k ≡ [] → joined ks (segmentsAt a k) ≡ []
 unfolding segmentsAt joined nonEmpty
 single-none ks a k h e = rw (ne-eqb k DD-KEY (λ q. omega arith), ne-eqb k OU-KEY (λ q. omega arith), e)
 
-pub single-some : (a : Attributes) (k : ℕ) → k < singles → 0 < length (singleOf a k) → joined keys (segmentsAt a k) ≡ keyValue (getD keys k []) (singleOf a k)
+pub single-some : (a : Attributes) (k : ℕ) → k < singleCount → 0 < length (singleOf a k) → joined keys (segmentsAt a k) ≡ keyValue (getD keys k []) (singleOf a k)
 unfolding segmentsAt joined
 single-some a k h e =
     rw (ne-eqb k DD-KEY (λ q. omega arith), ne-eqb k OU-KEY (λ q. omega arith), some-length (singleOf a k) e, append-nil)
@@ -166,7 +166,7 @@ module _ (n : ℕ) (a : Attributes) where
   unfolding singleOf remaining
   single-out k h = blank-out [] (min n ownLevels) (drop (min n ownLevels) (a .single)) k h
 
-  pub segments-left : (k : ℕ) → min n ownLevels ≤ k → k < singles → segmentsAt (remaining n a) k ≡ segmentsAt a k
+  pub segments-left : (k : ℕ) → min n ownLevels ≤ k → k < singleCount → segmentsAt (remaining n a) k ≡ segmentsAt a k
   unfolding segmentsAt
   segments-left k h l = rw (ne-eqb k DD-KEY (λ q. omega arith), ne-eqb k OU-KEY (λ q. omega arith), single-left k h)
 
@@ -264,7 +264,7 @@ module _ (n : ℕ) (a : Attributes) where
   unfolding remaining
   remaining-dds = refl
 
-  pub remaining-length : length (a .single) ≡ singles → length (remaining n a .single) ≡ singles
+  pub remaining-length : length (a .single) ≡ singleCount → length (remaining n a .single) ≡ singleCount
   unfolding remaining
   remaining-length h = simp (length-append, length-replicate, length-drop) (omega arith)
 
@@ -363,7 +363,7 @@ module _ (a : Attributes) where
   units-text = joined-map keys (plainSegment OU-KEY) (reverse (a .units))
 
   -- the segment of an attribute that a record has once, by a bound of its quoted value
-  single-most : (k m : ℕ) → k < singles → length (quoted (singleOf a k)) ≤ m → length (keyText a k) ≤ length (getD keys k []) + m + 2
+  single-most : (k m : ℕ) → k < singleCount → length (quoted (singleOf a k)) ≤ m → length (keyText a k) ≤ length (getD keys k []) + m + 2
   single-most k m h l =
       let v = singleOf a k in
       by-test (ltb 0 (length v))
@@ -398,7 +398,7 @@ all-reverse p (x ∷ l) h =
     rw (reverse-cons, all-append p (reverse l) (x ∷ []), all-reverse p l (and-right (p x) (all p l) h), and-left (p x) (all p l) h)
 
 module _ (a : Attributes) (r : Ruled a) where
-  own-most : (k m : ℕ) → k < singles → leb (length (getD keys k []) + 2 * boundOf k + 2) m ≡ true → length (keyText a k) ≤ m
+  own-most : (k m : ℕ) → k < singleCount → leb (length (getD keys k []) + 2 * boundOf k + 2) m ≡ true → length (keyText a k) ≤ m
   own-most k m h e =
       omega (arith, leb-true (length (getD keys k []) + 2 * boundOf k + 2) m e, single-most a k (2 * boundOf k) h (omega (arith, quoted-length (singleOf a k), kept-within k (singleOf a k) (r .singles k))))
 
@@ -505,7 +505,7 @@ flat-class f p q g (x ∷ l) h =
     rw (all-append q (f x) (flat f l), g x (and-left (p x) (all p l) h), flat-class f p q g l (and-right (p x) (all p l) h))
 
 module _ (a : Attributes) (r : Ruled a) where
-  own-class : (k : ℕ) → k < singles → all isTextChar (keyText a k) ≡ true
+  own-class : (k : ℕ) → k < singleCount → all isTextChar (keyText a k) ≡ true
   unfolding all
   own-class k h =
       let v = singleOf a k in
@@ -521,7 +521,7 @@ module _ (a : Attributes) (r : Ruled a) where
       (λ f. rw (eqb-true k OU-KEY f, units-text a) (flat-class unitText isUnit isTextChar unit-class (reverse (a .units)) (all-reverse isUnit (a .units) (r .units))))
       (λ f. own-class k (below k (ltb-true k 10 h) (eqb-false k DD-KEY e) (eqb-false k OU-KEY f))))
     where
-      below : (k : ℕ) → k < 10 → (k ≡ 9 → ⊥) → (k ≡ 8 → ⊥) → k < singles
+      below : (k : ℕ) → k < 10 → (k ≡ 9 → ⊥) → (k ≡ 8 → ⊥) → k < singleCount
       below k h e f = omega arith
 
   record-class : all isTextChar (recordText keys a) ≡ true

@@ -20,7 +20,7 @@ use Rattle.chars.specs.Spaces.{isText, wellSpaced}
 use Rattle.chars.proofs.Laws.Case.{equal-path}
 use Rattle.chars.proofs.Laws.Class.{digit-printable, letter-printable}
 use Rattle.chars.proofs.Laws.Lists.{all-append, all-at, all-drop, all-map, all-weaken, first-at, and-both, and-left, and-right, and-three, by-test, or-cases, true-not-false}
-use Rattle.oraddr.specs.Bounds.{ADMD, C, C-LETTERS, DD-TYPE, DD-VALUE, G, GQ, I, O, OU, PRMD, S, boundOf, isCountry, isSpace, isValue, ownLevels, rule, singles}
+use Rattle.oraddr.specs.Bounds.{ADMD, C, C-LETTERS, DD-TYPE, DD-VALUE, G, GQ, I, O, OU, PRMD, S, boundOf, isCountry, isSpace, isValue, ownLevels, rule, singleCount}
 use Rattle.ortext_segments.specs.Keys.{Keys, DD-KEY, OU-KEY, PN-KEY, SHORT-KEYS, isKey, keyNumber, keys}
 use Rattle.ortext_segments.specs.Segments.{Segment, unknown, ahead, keyRun, plainKey, plainText, readRest, readSegments, segmentOf, symbols}
 use Rattle.oraddr.specs.Attributes.{Attributes, Dd, singleOf}
@@ -453,7 +453,7 @@ module _ (a : Attributes) where
   single-value k h = rw (single-in k h) (one-value (singleOf a k) .2)
 
   -- what is written names the attributes
-  pub named-in : length (a .single) ≡ singles → named (segmentsIn a order) ≡ some a
+  pub named-in : length (a .single) ≡ singleCount → named (segmentsIn a order) ≡ some a
   unfolding named hasUnknown hasRepeated pnMeets hasEmpty withName nameOf all nonEmpty isSingle times own elements
   named-in l =
       let gs = segmentsIn a order in
@@ -479,7 +479,7 @@ module _ (a : Attributes) where
       )
       (ap (λ (ss : List (List ℕ)). some (record { single = ss; units = a .units; dds = a .dds })) (sym (listed (a .single) 0 8 l)))
 
-pub named-written : (ks : Keys) (a : Attributes) → length (a .single) ≡ singles → named (map (spelled ks) (segmentsIn a order)) ≡ some (spelledAttributes ks a)
+pub named-written : (ks : Keys) (a : Attributes) → length (a .single) ≡ singleCount → named (map (spelled ks) (segmentsIn a order)) ≡ some (spelledAttributes ks a)
 unfolding spelledAttributes
 named-written ks a l = rw (spelled-in ks a order) (named-in (spelledAttributes ks a) l)
 
@@ -646,7 +646,7 @@ module _ (ks : Keys) (good : goodKeys ks ≡ true) (n : ℕ) (a : Attributes) (c
       let q : gs ≡ map (spelled ks) (segmentsIn (remaining n a) order) = cc in
       rw (q, spelled-in ks (remaining n a) order, keys-in n (spelledAttributes ks a) order)
 
-  module _ (l : length (a .single) ≡ singles) where
+  module _ (l : length (a .single) ≡ singleCount) where
     pub written-back : let b = remaining n a in (gs : List Segment) × (readSegments ks (recordText ks b) ≡ some gs) × (named gs ≡ some (spelledAttributes ks b))
     written-back = (map (spelled ks) (segmentsIn (remaining n a) order), record-read, named-written ks (remaining n a) (remaining-length n a l))
 

@@ -6,7 +6,7 @@ use Prim.Native.Nat.{_≤_, _-_}
 use native.Mathlib.Omega.{arith}
 use lib.ListN.{drop, length-map}
 use Rattle.chars.proofs.Laws.Lists.{failed, passed}
-use Rattle.oraddr.specs.Bounds.{singles}
+use Rattle.oraddr.specs.Bounds.{singleCount}
 use Rattle.oraddr.specs.Canonical.{canonicalSingles}
 use Rattle.oraddr.specs.View.{singlesInRange, singlesView}
 use Rattle.oraddr_canonical.proofs.Laws.{kept-end, kept-step, keptFrom}
@@ -14,10 +14,10 @@ use Rattle.oraddr_canonical.proofs.canonical.canonical_singles.Statemen
 use Rattle.oraddr_canonical.proofs.canonical.canonical_singles.Tie as tie
 
 abbrev Inv-loop : tie.InvT-loop
-Inv-loop all k₀ k = (k ≤ singles) × (canonicalSingles all ≡ keptFrom k (drop k (all .values)))
+Inv-loop all k₀ k = (k ≤ singleCount) × (canonicalSingles all ≡ keptFrom k (drop k (all .values)))
 
 abbrev μ-loop : tie.MeasureT-loop
-μ-loop all k₀ k = singles - k
+μ-loop all k₀ k = singleCount - k
 
 loop-holds : tie.Need-loop-holds Inv-loop μ-loop
 unfolding canonicalSingles singlesInRange singlesView

@@ -10,18 +10,18 @@ use borrow.Author.Tests.{not-false, not-true}
 use lib.ListN.{length, drop, length-map, List·getD-map}
 use Rattle.chars.specs.Case.{agree, sameText}
 use Rattle.chars.proofs.Laws.Case.{agree-end, agree-step}
-use Rattle.oraddr.specs.Bounds.{singles}
+use Rattle.oraddr.specs.Bounds.{singleCount}
 use Rattle.oraddr.specs.View.{singlesView, valueView}
 use Rattle.oraddr_same.proofs.same.same_singles.Statement.{statement}
 use Rattle.oraddr_same.proofs.same.same_singles.Tie as tie
 
 abbrev Inv-loop : tie.InvT-loop
 Inv-loop a b k₀ k =
-    (k ≤ singles) × (length (singlesView a) ≡ singles) × (length (singlesView b) ≡ singles)
+    (k ≤ singleCount) × (length (singlesView a) ≡ singleCount) × (length (singlesView b) ≡ singleCount)
     × (agree sameText (singlesView a) (singlesView b) ≡ agree sameText (drop k (singlesView a)) (drop k (singlesView b)))
 
 abbrev μ-loop : tie.MeasureT-loop
-μ-loop a b k₀ k = singles - k
+μ-loop a b k₀ k = singleCount - k
 
 loop-holds : tie.Need-loop-holds Inv-loop μ-loop
 unfolding singlesView

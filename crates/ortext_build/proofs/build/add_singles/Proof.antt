@@ -8,7 +8,7 @@ use borrow.Author.Needs.{needs}
 use lib.ListN.{length, take, drop, drop-of-length-le, length-take}
 use lib.Seq.{getD-take}
 use Rattle.oraddr.specs.Add.{told}
-use Rattle.oraddr.specs.Bounds.{singles}
+use Rattle.oraddr.specs.Bounds.{singleCount}
 use Rattle.ortext_build.specs.Adding.{addSingles, start}
 use Rattle.ortext_named.specs.Named.{noSpan}
 use Rattle.ortext_segments.specs.Scan.{spanText}
@@ -18,21 +18,21 @@ use Rattle.ortext_build.proofs.build.add_singles.Tie as tie
 
 abbrev Inv-loop : tie.InvT-loop
 Inv-loop s named next₀ k₀ next k =
-    (k ≤ singles) × (addSingles 0 (map (spanText s) (take singles (named .once))) (start next₀) ≡ addSingles k (map (spanText s) (drop k (take singles (named .once)))) (start next))
+    (k ≤ singleCount) × (addSingles 0 (map (spanText s) (take singleCount (named .once))) (start next₀) ≡ addSingles k (map (spanText s) (drop k (take singleCount (named .once)))) (start next))
 
 abbrev μ-loop : tie.MeasureT-loop
-μ-loop s named next₀ k₀ next k = singles - k
+μ-loop s named next₀ k₀ next k = singleCount - k
 
 -- a turn of the loop
 step : (c : tie.After-add-single Inv-loop μ-loop) → let l = c .before .before .before .loop in
-    let a = c .before .before .before .before .before .args in addSingles 0 (map (spanText (a .s .now)) (take singles (a .t3 .once))) (start (a .rec)) ≡ addSingles (l .k + 1) (map (spanText (a .s .now)) (drop (l .k + 1) (take singles (a .t3 .once)))) (told (c .add-single .result))
+    let a = c .before .before .before .before .before .args in addSingles 0 (map (spanText (a .s .now)) (take singleCount (a .t3 .once))) (start (a .rec)) ≡ addSingles (l .k + 1) (map (spanText (a .s .now)) (drop (l .k + 1) (take singleCount (a .t3 .once)))) (told (c .add-single .result))
 step c =
     let l = c .before .before .before .loop in
     let t = c .before .before .before .before .before in
     let once = t .args .t3 .once in
     let f = spanText (t .args .s .now) in
-    l .inv .1 ∙ singles-next f noSpan (l .k) (take singles once) (start (l .next)) (omega (arith, length-take singles once, t .pre .once-room))
-    ∙ ap (addSingles (l .k + 1) (map f (drop (l .k + 1) (take singles once)))) (ap (λ p. addSingles (l .k) (f p ∷ []) (start (l .next))) (getD-take singles once (l .k) noSpan (omega arith)) ∙ sym (c .add-single .ensures))
+    l .inv .1 ∙ singles-next f noSpan (l .k) (take singleCount once) (start (l .next)) (omega (arith, length-take singleCount once, t .pre .once-room))
+    ∙ ap (addSingles (l .k + 1) (map f (drop (l .k + 1) (take singleCount once)))) (ap (λ p. addSingles (l .k) (f p ∷ []) (start (l .next))) (getD-take singleCount once (l .k) noSpan (omega arith)) ∙ sym (c .add-single .ensures))
 
 loop-holds : tie.Need-loop-holds Inv-loop μ-loop
 loop-holds c = (omega arith, refl)
@@ -52,8 +52,8 @@ returns-2 c =
     let l = c .before .loop in
     let t = c .before .before .before in
     let once = t .args .t3 .once in
-    let h : length (take singles once) ≤ l .k = omega (arith, length-take singles once) in
-    sym (l .inv .1 ∙ rw (drop-of-length-le (take singles once) h))
+    let h : length (take singleCount once) ≤ l .k = omega (arith, length-take singleCount once) in
+    sym (l .inv .1 ∙ rw (drop-of-length-le (take singleCount once) h))
 
 pub add-singles-spec : {M : Type 1} → statement M
 add-singles-spec = tie.close (tie.spec Inv-loop μ-loop loop-holds (λ c. omega arith) (λ c. omega arith) add-single-requires (λ c. search needs)

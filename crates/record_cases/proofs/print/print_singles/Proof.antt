@@ -2,15 +2,15 @@
 -- Assumes nothing.
 use borrow.Author.Needs.{needs}
 use Prim.Native.Nat.{_≤_, _-_}
-use Rattle.oraddr.specs.Bounds.{singles}
+use Rattle.oraddr.specs.Bounds.{singleCount}
 use Rattle.record_cases.proofs.print.print_singles.Statement.{statement}
 use Rattle.record_cases.proofs.print.print_singles.Tie as tie
 
 abbrev Inv-loop : tie.InvT-loop
-Inv-loop rec k₀ k = k ≤ singles
+Inv-loop rec k₀ k = k ≤ singleCount
 
 abbrev μ-loop : tie.MeasureT-loop
-μ-loop rec k₀ k = singles - k
+μ-loop rec k₀ k = singleCount - k
 
 loop-again : tie.Need-loop-again Inv-loop μ-loop
 loop-again c = search needs

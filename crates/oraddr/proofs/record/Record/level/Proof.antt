@@ -5,14 +5,14 @@ use native.Mathlib.Omega.{arith}
 use borrow.Author.Needs.{needs}
 use denote.Ref.{now}
 use lib.ListN.{length, length-map, length-take}
-use Rattle.oraddr.specs.Bounds.{OU, boundOf, singles}
+use Rattle.oraddr.specs.Bounds.{OU, boundOf, singleCount}
 use Rattle.oraddr.specs.View.{singlesView, unitView, valueView, view}
 use Rattle.oraddr.proofs.Laws.Text.{view-value}
 use Rattle.oraddr.proofs.Laws.View.{level-own, level-unit}
 use Rattle.oraddr.proofs.record.Record.level.Statement.{statement}
 use Rattle.oraddr.proofs.record.Record.level.Tie as tie
 
-all-singles : (c : tie.Start) → length (view (c .args .self) .single) ≡ singles
+all-singles : (c : tie.Start) → length (view (c .args .self) .single) ≡ singleCount
 unfolding view singlesView
 all-singles c = length-map (c .args .self .singles .values) valueView ∙ simp length-map at (c .good .0 .1 .1 .0 .1 .1 .0 .1 .0 .1)
 
