@@ -100,7 +100,7 @@ module _ (r : Record) (m : Made r) where
   unfolding clean
   cleans = and-three (cleanSingles (r .singles)) (cleanUnits (r .units)) (cleanDds (r .dds)) (m .cleaned)
 
-  set-made : (k : ℕ) (v : List ℕ) → length v ≤ boundOf O → Made (record { singleCount = setSingle (r .singles) k v; units = r .units; dds = r .dds })
+  set-made : (k : ℕ) (v : List ℕ) → length v ≤ boundOf O → Made (record { singles = setSingle (r .singles) k v; units = r .units; dds = r .dds })
   unfolding setSingle valueOf valueRoom inRange singlesInRange clean cleanSingles
   set-made k v h = record {
     shaped = record { values = length-set (r .singles .values) k (valueOf v) ∙ m .shaped .values; names = m .shaped .names; items = m .shaped .items };
@@ -109,7 +109,7 @@ module _ (r : Record) (m : Made r) where
     cleaned = and-both (and-both (all-set (λ w. cleanText (w .len) (w .bytes)) (r .singles .values) k (valueOf v) (cleans .0) (made-clean v (boundOf O))) (cleans .1)) (cleans .2);
   }
 
-  unit-made : (v : List ℕ) → r .units .count < most → length v ≤ boundOf OU → Made (record { singleCount = r .singles; units = pushUnit (r .units) v; dds = r .dds })
+  unit-made : (v : List ℕ) → r .units .count < most → length v ≤ boundOf OU → Made (record { singles = r .singles; units = pushUnit (r .units) v; dds = r .dds })
   unfolding pushUnit orgUnitOf unitRoom inRange unitsInRange clean cleanUnits
   unit-made v l h = record {
     shaped = record { values = m .shaped .values; names = length-set (r .units .names) (r .units .count) (orgUnitOf v) ∙ m .shaped .names; items = m .shaped .items };
@@ -118,7 +118,7 @@ module _ (r : Record) (m : Made r) where
     cleaned = and-both (and-both (cleans .0) (push-clean (λ w. cleanText (w .len) (w .bytes)) (λ w. eqb (w .len) 0) (r .units .names) (r .units .count) (orgUnitOf v) (cleans .1) (made-clean v (boundOf OU)))) (cleans .2);
   }
 
-  dd-made : (t v : List ℕ) → r .dds .count < most → length t ≤ boundOf DD-TYPE → length v ≤ boundOf DD-VALUE → Made (record { singleCount = r .singles; units = r .units; dds = pushDd (r .dds) (domainDefinedOf t v) })
+  dd-made : (t v : List ℕ) → r .dds .count < most → length t ≤ boundOf DD-TYPE → length v ≤ boundOf DD-VALUE → Made (record { singles = r .singles; units = r .units; dds = pushDd (r .dds) (domainDefinedOf t v) })
   unfolding pushDd domainDefinedOf kindOf ddValueOf ddRoom inRange ddsInRange ddInRange clean cleanDds cleanDd
   dd-made t v l g h = record {
     shaped = record { values = m .shaped .values; names = m .shaped .names; items = length-set (r .dds .items) (r .dds .count) (domainDefinedOf t v) ∙ m .shaped .items };
@@ -131,7 +131,7 @@ module _ (r : Record) (m : Made r) where
   unfolding addSingle
   made-single k v l =
       let free = eqb (getD (r .singles .values) k (valueOf []) .len) 0 in
-      outcome-keeps Made (rule k v && free) (record { singleCount = setSingle (r .singles) k v; units = r .units; dds = r .dds }) r
+      outcome-keeps Made (rule k v && free) (record { singles = setSingle (r .singles) k v; units = r .units; dds = r .dds }) r
       (λ e. set-made k v (rule-length k v (and-left (rule k v) free e) l))
       m
 
@@ -139,7 +139,7 @@ module _ (r : Record) (m : Made r) where
   unfolding addUnit isUnit
   made-unit v =
       let free = ltb (r .units .count) most in
-      outcome-keeps Made (isUnit v && free) (record { singleCount = r .singles; units = pushUnit (r .units) v; dds = r .dds }) r
+      outcome-keeps Made (isUnit v && free) (record { singles = r .singles; units = pushUnit (r .units) v; dds = r .dds }) r
       (λ e. unit-made v (ltb-true (r .units .count) most (and-right (isUnit v) free e)) (value-length OU v (and-left (isUnit v) free e)))
       m
 
@@ -148,7 +148,7 @@ module _ (r : Record) (m : Made r) where
   made-dd t v =
       let free = ltb (r .dds .count) most in
       let dd = isDd (record { kind = t; value = v }) in
-      outcome-keeps Made (dd && free) (record { singleCount = r .singles; units = r .units; dds = pushDd (r .dds) (domainDefinedOf t v) }) r
+      outcome-keeps Made (dd && free) (record { singles = r .singles; units = r .units; dds = pushDd (r .dds) (domainDefinedOf t v) }) r
       (λ e. dd-made t v (ltb-true (r .dds .count) most (and-right dd free e))
       (value-length DD-TYPE t (and-left (isValue DD-TYPE t) (isValue DD-VALUE v) (and-left dd free e)))
       (value-length DD-VALUE v (and-right (isValue DD-TYPE t) (isValue DD-VALUE v) (and-left dd free e))))
@@ -363,8 +363,8 @@ module _ (r s : Record) (m : Made r) (n : Made s) where
   pub made-path : view r ≡ view s → r ≡ s
   unfolding view
   made-path e =
-      ap₂ (λ a b. record { singleCount = a; units = b; dds = r .dds }) (singles-path (ap (λ x. x .single) e)) (units-path (ap (λ x. x .units) e))
-      ∙ ap (λ c. record { singleCount = s .singles; units = s .units; dds = c }) (dds-path (ap (λ x. x .dds) e))
+      ap₂ (λ a b. record { singles = a; units = b; dds = r .dds }) (singles-path (ap (λ x. x .single) e)) (units-path (ap (λ x. x .units) e))
+      ∙ ap (λ c. record { singles = s .singles; units = s .units; dds = c }) (dds-path (ap (λ x. x .dds) e))
 
 -- ---- an addition, said of the attributes
 

@@ -121,7 +121,7 @@ view-empty = refl
 -- ---- the attributes after an addition
 
 pub view-set-single : (r : Record) (k : ℕ) (v : List ℕ)
-    → view (record { singleCount = setSingle (r .singles) k v; units = r .units; dds = r .dds })
+    → view (record { singles = setSingle (r .singles) k v; units = r .units; dds = r .dds })
     ≡ record { single = set (view r .single) k v; units = view r .units; dds = view r .dds }
 unfolding view singlesView setSingle
 view-set-single r k v = rw (map-set valueView (r .singles .values) k (valueOf v), view-value v)
