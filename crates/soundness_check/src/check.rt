@@ -18,7 +18,7 @@ use table_settle::settle::count_levels;
 ghost use Rattle.table.specs.Lines.{loadedFrom};
 ghost use Rattle.soundness.specs.Check.{AllFirst, AllSecond, AllUnder, Demand3, FirstBack, toldCheck};
 ghost use Rattle.soundness.specs.Sound.{Sound};
-ghost use Rattle.soundness_judge.specs.Judge.{Judges, JudgesRow, Ready, RowOf};
+ghost use Rattle.soundness_judge.specs.Judge.{Judges, JudgesRow, Usable, RowOf};
 
 // The first candidates of a row.
 fn judge_row(
@@ -28,7 +28,7 @@ fn judge_row(
     table: Loaded,
     row: Row,
 ) -> Checked
-    requires { ⌜ Ready (now text) (now «to_path») (now «to_domain») table ⌝ }
+    requires { ⌜ Usable (now text) (now «to_path») (now «to_domain») table ⌝ }
     requires { ⌜ RowOf (now text) (now «to_path») (now «to_domain») table row ⌝ }
     ensures { λ r. ⌜ JudgesRow FirstBack (now (text .entry)) (now («to_path» .entry)) (now («to_domain» .entry)) table row r ⌝ }
 {
@@ -53,7 +53,7 @@ fn judge_row(
 
 // The first candidates of all rows.
 fn judge_rows(text: &[u8], to_path: &[usize], to_domain: &[usize], table: Loaded) -> Checked
-    requires { ⌜ Ready (now text) (now «to_path») (now «to_domain») table ⌝ }
+    requires { ⌜ Usable (now text) (now «to_path») (now «to_domain») table ⌝ }
     ensures { λ r. ⌜ Judges AllFirst (now (text .entry)) (now («to_path» .entry)) (now («to_domain» .entry)) table r ⌝ }
 {
     let mut i = 0;
@@ -76,7 +76,7 @@ fn judge_under(
     table: Loaded,
     row: Row,
 ) -> Checked
-    requires { ⌜ Ready (now text) (now «to_path») (now «to_domain») table ⌝ }
+    requires { ⌜ Usable (now text) (now «to_path») (now «to_domain») table ⌝ }
     requires { ⌜ RowOf (now text) (now «to_path») (now «to_domain») table row ⌝ }
     ensures { λ r. ⌜ JudgesRow AllUnder (now (text .entry)) (now («to_path» .entry)) (now («to_domain» .entry)) table row r ⌝ }
 {
@@ -105,7 +105,7 @@ fn judge_under(
 
 // The second candidates of all rows.
 fn judge_pairs(text: &[u8], to_path: &[usize], to_domain: &[usize], table: Loaded) -> Checked
-    requires { ⌜ Ready (now text) (now «to_path») (now «to_domain») table ⌝ }
+    requires { ⌜ Usable (now text) (now «to_path») (now «to_domain») table ⌝ }
     ensures { λ r. ⌜ Judges AllSecond (now (text .entry)) (now («to_path» .entry)) (now («to_domain» .entry)) table r ⌝ }
 {
     let mut i = 0;
@@ -123,7 +123,7 @@ fn judge_pairs(text: &[u8], to_path: &[usize], to_domain: &[usize], table: Loade
 // The check of a table that was loaded. All first candidates come before any second one: then no two rows share a domain, and the pairs
 // are few.
 fn check_loaded(text: &[u8], to_path: &[usize], to_domain: &[usize], table: Loaded) -> Checked
-    requires { ⌜ Ready (now text) (now «to_path») (now «to_domain») table ⌝ }
+    requires { ⌜ Usable (now text) (now «to_path») (now «to_domain») table ⌝ }
     ensures { λ r. ⌜ Judges Sound (now (text .entry)) (now («to_path» .entry)) (now («to_domain» .entry)) table r ⌝ }
 {
     let first = judge_rows(text, to_path, to_domain, table);

@@ -16,7 +16,7 @@ use Rattle.soundness.specs.Tokens.{Back, Tried, pad}
 use Rattle.soundness.specs.declared.answers.Checked.{Checked}
 
 -- The table was loaded, and is well-formed.
-pub record Ready (s ds rs : List ℕ) (t : load.Loaded.Loaded) : Type 0 where
+pub record Usable (s ds rs : List ℕ) (t : load.Loaded.Loaded) : Type 0 where
   pub kept : Kept s ds rs t
   pub formed : Formed (tableAt s ds rs t)
 

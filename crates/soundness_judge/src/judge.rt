@@ -34,7 +34,7 @@ ghost use Rattle.table.specs.Rows.{rowAt, tableAt};
 ghost use Rattle.soundness.specs.Check.{SecondBack, isSound};
 ghost use Rattle.soundness.specs.Sound.{backBy, comesBack};
 ghost use Rattle.soundness.specs.declared.answers.CheckAnswer.the-variants.{Sound as SoundAnswer};
-ghost use Rattle.soundness_judge.specs.Judge.{FreshBack, Judges, JudgesRow, PlainBack, Ready, RowOf};
+ghost use Rattle.soundness_judge.specs.Judge.{FreshBack, Judges, JudgesRow, PlainBack, Usable, RowOf};
 
 // Whether an address is mapped back to the record.
 fn is_back(
@@ -68,7 +68,7 @@ fn comes_back(
     table: Loaded,
     rec: Record,
 ) -> bool
-    requires { ⌜ Ready (now text) (now «to_path») (now «to_domain») table ⌝ }
+    requires { ⌜ Usable (now text) (now «to_path») (now «to_domain») table ⌝ }
     ensures { λ r. ⌜ r ≡ comesBack (tableAt (now (text .entry)) (now («to_path» .entry)) (now («to_domain» .entry)) table) rec ⌝ }
 {
     let mut out = [0u8; ADDRESS_ROOM];
@@ -107,7 +107,7 @@ pub fn is_sound(answer: CheckAnswer) -> bool
 
 // The judgement on one candidate.
 fn judge(text: &[u8], to_path: &[usize], to_domain: &[usize], table: Loaded, rec: Record) -> Checked
-    requires { ⌜ Ready (now text) (now «to_path») (now «to_domain») table ⌝ }
+    requires { ⌜ Usable (now text) (now «to_path») (now «to_domain») table ⌝ }
     requires { ⌜ canonicalRecord rec ≡ true ⌝ }
     requires { ⌜ isCarrier (tableAt (now text) (now «to_path») (now «to_domain») table) (view rec) ≡ false ⌝ }
     ensures { λ r. ⌜ Judges (λ t. comesBack t rec ≡ true) (now (text .entry)) (now («to_path» .entry)) (now («to_domain» .entry)) table r ⌝ }
@@ -129,7 +129,7 @@ pub fn judge_plain(
     table: Loaded,
     row: Row,
 ) -> Checked
-    requires { ⌜ Ready (now text) (now «to_path») (now «to_domain») table ⌝ }
+    requires { ⌜ Usable (now text) (now «to_path») (now «to_domain») table ⌝ }
     requires { ⌜ RowOf (now text) (now «to_path») (now «to_domain») table row ⌝ }
     ensures { λ r. ⌜ JudgesRow PlainBack (now (text .entry)) (now («to_path» .entry)) (now («to_domain» .entry)) table row r ⌝ }
 {
@@ -145,7 +145,7 @@ pub fn judge_fresh(
     row: Row,
     k: usize,
 ) -> Checked
-    requires { ⌜ Ready (now text) (now «to_path») (now «to_domain») table ⌝ }
+    requires { ⌜ Usable (now text) (now «to_path») (now «to_domain») table ⌝ }
     requires { ⌜ RowOf (now text) (now «to_path») (now «to_domain») table row ⌝ }
     requires { ⌜ k ≡ length (rowAt (now text) row .path) ⌝ }
     requires { ⌜ (2 ≤ k) × (k ≤ 3) ⌝ }
@@ -182,7 +182,7 @@ pub fn judge_pair(
     row: Row,
     domain: &[u8],
 ) -> Checked
-    requires { ⌜ Ready (now text) (now «to_path») (now «to_domain») table ⌝ }
+    requires { ⌜ Usable (now text) (now «to_path») (now «to_domain») table ⌝ }
     requires { ⌜ RowOf (now text) (now «to_path») (now «to_domain») table row ⌝ }
     requires { ⌜ isDomain (now domain) ≡ true ⌝ }
     ensures { λ r. ⌜ JudgesRow (λ t q. SecondBack t q (now (domain .entry))) (now (text .entry)) (now («to_path» .entry)) (now («to_domain» .entry)) table row r ⌝ }
