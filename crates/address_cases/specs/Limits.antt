@@ -2,10 +2,6 @@
 -- Assumes nothing.
 use Prim.Native.Nat.{ℕ}
 
--- the longest text; the cases have none longer
-abbrev pub longestText : ℕ
-longestText = 2100
-
--- a place that no input reaches
-abbrev pub farPlace : ℕ
-farPlace = 1000000
+-- the longest text of a case; the cases have none longer
+abbrev pub longestCase : ℕ
+longestCase = 2100

@@ -22,13 +22,13 @@ use mailaddr::shape::unquote_local;
 use mailaddr::tail::shared_tail;
 ghost use Prim.Native.Nat.{_≤_};
 ghost use lib.ListN.{length};
-ghost use Rattle.address_cases.specs.Limits.{longestText};
+ghost use Rattle.address_cases.specs.Limits.{longestCase};
 
 // Room for any text here: the longest of the input, every character of it escaped.
 const ROOM: usize = 8192;
 
 // The longest text that is looked at; the cases have none longer.
-const LONGEST: usize = 2100;
+const LONGEST_CASE: usize = 2100;
 
 // A number, and a space.
 fn say_count(n: usize) {
@@ -101,7 +101,7 @@ fn print_decoded(s: &[u8])
 
 // A local part, quoted where it has to be.
 fn print_quoted(s: &[u8])
-    requires { ⌜ length (now s) ≤ 2100 ⌝ }
+    requires { ⌜ length (now s) ≤ longestCase ⌝ }
 {
     let mut out = [0u8; ROOM];
     let n = put_local(&mut out, 0, s);
@@ -109,7 +109,7 @@ fn print_quoted(s: &[u8])
 }
 
 fn print_address(s: &[u8], domain: &[u8])
-    requires { ⌜ length (now s) ≤ 2100 ⌝ }
+    requires { ⌜ length (now s) ≤ longestCase ⌝ }
 {
     print_quoted(s);
     say(b"@");
@@ -144,7 +144,7 @@ fn print_tail(a: &[u8], b: &[u8]) {
 
 // A command on one text or two.
 fn run_command(command: u8, first: &[u8], second: &[u8])
-    requires { ⌜ length (now first) ≤ 2100 ⌝ }
+    requires { ⌜ length (now first) ≤ longestCase ⌝ }
 {
     match command {
         b'S' => print_shape(first),
@@ -159,7 +159,7 @@ fn run_command(command: u8, first: &[u8], second: &[u8])
 
 // A command on texts, the first of which is no longer than what is looked at.
 fn run_texts(command: u8, first: &[u8], second: &[u8]) {
-    if LONGEST < first.len() {
+    if LONGEST_CASE < first.len() {
         return;
     }
     run_command(command, first, second);
