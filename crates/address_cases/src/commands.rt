@@ -48,7 +48,7 @@ fn print_local(s: &[u8]) {
 }
 
 fn print_unquoted(s: &[u8], parted: Parted)
-    requires { ⌜ length (now s) ≤ longestText ⌝ }
+    requires { ⌜ length (now s) ≤ longestCase ⌝ }
     requires { ⌜ parted .at ≤ length (now s) ⌝ }
 {
     let mut out = [0u8; ROOM];
@@ -57,7 +57,7 @@ fn print_unquoted(s: &[u8], parted: Parted)
 }
 
 fn print_parted(s: &[u8], parted: Parted)
-    requires { ⌜ length (now s) ≤ longestText ⌝ }
+    requires { ⌜ length (now s) ≤ longestCase ⌝ }
 {
     say(b"0 ");
     say_count(parted.at);
@@ -68,7 +68,7 @@ fn print_parted(s: &[u8], parted: Parted)
 }
 
 fn print_shape(s: &[u8])
-    requires { ⌜ length (now s) ≤ longestText ⌝ }
+    requires { ⌜ length (now s) ≤ longestCase ⌝ }
 {
     match read_shape(s) {
         ShapeRead::Address(parted) => print_parted(s, parted),
@@ -78,7 +78,7 @@ fn print_shape(s: &[u8])
 }
 
 fn print_coded(s: &[u8])
-    requires { ⌜ length (now s) ≤ longestText ⌝ }
+    requires { ⌜ length (now s) ≤ longestCase ⌝ }
 {
     let mut out = [0u8; 128];
     let n = put_coded(&mut out, s);
@@ -87,7 +87,7 @@ fn print_coded(s: &[u8])
 }
 
 fn print_decoded(s: &[u8])
-    requires { ⌜ length (now s) ≤ longestText ⌝ }
+    requires { ⌜ length (now s) ≤ longestCase ⌝ }
 {
     let mut out = [0u8; ROOM];
     match decode(&mut out, s) {
