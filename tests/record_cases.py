@@ -108,10 +108,10 @@ def shown(room, text):
 
 def dump(record):
     cut = lambda t: shown(t[1], t[1][: t[0]])
-    singles = b"".join(cut(t) for t in record.single)
-    units = str(min(record.unit_count, 4)).encode() + b"".join(cut(t) for t in record.units)
-    dds = str(min(record.dd_count, 4)).encode() + b"".join(cut(t) + cut(v) for t, v in record.dds)
-    return singles + units + dds + b"".join(shown(room, text) for room, text in record.levels())
+    values = b"".join(cut(t) + shown(*level) for t, level in zip(record.single, record.levels()))
+    counts = b"%d%d" % (min(record.unit_count, 4), min(record.dd_count, 4))
+    lists = b"".join(cut(u) + cut(t) + cut(v) for u, (t, v) in zip(record.units, record.dds))
+    return values + counts + lists
 
 
 class Cases:
