@@ -71,38 +71,55 @@ class Cases:
                 g.write(b"".join(self.out[table]))
 
 
-def pair(n):
-    return bytes([n >> 8, n & 255])
+def digits(n):
+    """A number in four digits, 9999 for the largest length or count there is."""
+    return b"%04d" % n
 
 
 def line(tag, *fields):
-    return b"\t".join([tag] + [f.hex().encode() for f in fields]) + b"\n"
+    return tag + b"\t" + b"".join(fields).hex().encode() + b"\n"
 
 
-def record_lines(one, units, dds):
+def part(place, count, *texts):
+    """A part of a record, its length in front."""
+    s = digits(place) + digits(count) + b"".join(texts)
+    return digits(len(s)) + s
+
+
+def value(k, s, size=None):
+    return part(k, 0, digits(len(s) if size is None else size), s[:64])
+
+
+def unit(i, s, count, size=None):
+    return part(8 + i, count, digits(len(s) if size is None else size), s[:32])
+
+
+def dd(i, t, v, count, sizes=None):
+    t_size, v_size = sizes or (len(t), len(v))
+    return part(12 + i, count, digits(t_size), t[:8].ljust(8, b"\0"), digits(v_size), v[:128])
+
+
+def record_parts(one, units, dds):
     """A record as it is filled, what does not fit its room cut off, its length as it is."""
-    found = [line(b"N")]
-    for k, name in enumerate(NAMES):
-        if one.get(name):
-            found.append(line(b"V", bytes([k]) + pair(len(one[name])) + one[name]))
-    found += [line(b"U", pair(len(u)) + u) for u in units[:4]]
-    found += [line(b"D", pair(len(t)) + t, pair(len(v)) + v) for t, v in dds[:4]]
-    if len(units) > 4 or len(dds) > 4:
-        found.append(line(b"C", bytes([len(units), len(dds)])))
-    return found
+    found = [value(k, one[name]) for k, name in enumerate(NAMES) if one.get(name)]
+    found += [unit(i, u, len(units)) for i, u in enumerate(units[:4])]
+    return found + [dd(i, t, v, len(dds)) for i, (t, v) in enumerate(dds[:4])]
 
 
-def record_answer(number, at_line, record):
-    """What is printed of an address to a record."""
-    if number == 0:
-        return b"0\t" + rules.record_text(record) + b"\n"
-    return b"%d" % number + (b"\t%d" % at_line if number == 7 else b"") + b"\n"
+def record_line(room, parts):
+    return line(b"R", digits(room), *parts)
+
+
+def record_answer(number, at_line, text):
+    """What is printed of an address to a record: the number, the line, and with 0 the text."""
+    return b"%d\t%d\t%s\n" % (number, at_line if number == 7 else 0, text if number == 0 else b"")
 
 
 def address_answer(number, at_line, text, room):
-    size = len(text) if number == 0 else 0
-    shown = b"\t" + text if number == 0 else b"\t%d" % at_line if number == 7 else b""
-    return b"%d%s\t%d\t%d\n" % (number, shown, size, room - size)
+    """What is printed of a record to an address: all that the text does not take of the buffer is as before."""
+    shown = text if number == 0 else b""
+    assert len(shown) <= room
+    return b"%d\t%d %d %s =\n" % (at_line if number == 7 else 0, number, len(shown), shown.hex().encode())
 
 
 def from_maps(cases):
@@ -118,9 +135,10 @@ def from_maps(cases):
         dds = [(raw(t), raw(v)) for t, v in given.get("DD", [])]
         if case["fn"] == "a2r":
             lines.append(line(b"A", raw(case["addr"])))
-            out.append(record_answer(case["number"], case["line"], {"one": one, "OU": units, "DD": dds}))
+            text = rules.record_text({"one": one, "OU": units, "DD": dds}) if case["number"] == 0 else b""
+            out.append(record_answer(case["number"], case["line"], text))
         else:
-            lines += record_lines(one, units, dds) + [line(b"R", pair(case["room"]))]
+            lines.append(record_line(case["room"], record_parts(one, units, dds)))
             out.append(address_answer(case["number"], case["line"], raw(case["text"]), case["room"]))
 
 
@@ -137,22 +155,24 @@ def from_runs(cases):
             number, _, shown = answer.partition(b"\t")
             if number == b"7":
                 continue
-            lines.append(line(text[:1], text[2:]))
             if text[:1] == b"A":
-                out.append(answer + b"\n")
+                lines.append(line(b"A", text[2:]))
+                out.append(record_answer(int(number), 0, shown))
             else:
+                lines.append(line(b"O", digits(2048), text[2:]))
                 out.append(address_answer(int(number), 0, shown, 2048))
 
 
 def add_address(cases, table, s):
     lines, out = cases.under(table)
     lines.append(line(b"A", s))
-    out.append(record_answer(*mapping.to_record(table, s)))
+    number, at_line, found = mapping.to_record(table, s)
+    out.append(record_answer(number, at_line, rules.record_text(found) if number == 0 else b""))
 
 
 def add_record(cases, table, record, room):
     lines, out = cases.under(table)
-    lines += record_lines(record["one"], record["OU"], record["DD"]) + [line(b"R", pair(room))]
+    lines.append(record_line(room, record_parts(record["one"], record["OU"], record["DD"])))
     out.append(address_answer(*mapping.to_address(table, record, room), room))
 
 
@@ -207,19 +227,13 @@ def from_edges(cases):
 def from_disturbed(cases):
     """Records whose lengths and counts are out of range: 4, and the buffer as before."""
     lines, out = cases.under(PORTS)
-    good = record_lines({**LEE, "O": b"brack"}, [b"u"], [(b"t", b"v")])
-    for k in range(8):
-        for size in (65, 65535):
-            lines += good + [line(b"V", bytes([k]) + pair(size) + b"XY"), line(b"R", pair(64))]
-            out.append(address_answer(4, 0, b"", 64))
-    for size in (33, 65535):
-        lines += good + [line(b"U", pair(size) + b"u"), line(b"R", pair(64))]
-        out.append(address_answer(4, 0, b"", 64))
-    for t, v in ((9, 1), (65535, 1), (1, 129), (1, 65535)):
-        lines += good + [line(b"D", pair(t) + b"t", pair(v) + b"v"), line(b"R", pair(64))]
-        out.append(address_answer(4, 0, b"", 64))
-    for units, dds in ((5, 1), (255, 1), (1, 5), (1, 255)):
-        lines += good + [line(b"C", bytes([units, dds])), line(b"R", pair(64))]
+    good = record_parts({**LEE, "O": b"brack"}, [b"u"], [(b"t", b"v")])
+    parts = [value(k, b"XY", size) for k in range(8) for size in (65, 9999)]
+    parts += [unit(1, b"u", 2, size) for size in (33, 9999)]
+    parts += [dd(1, b"t", b"v", 2, sizes) for sizes in ((9, 1), (9999, 1), (1, 129), (1, 9999))]
+    parts += [unit(0, b"u", count) for count in (5, 9999)] + [dd(0, b"t", b"v", count) for count in (5, 9999)]
+    for bad in parts:
+        lines.append(record_line(64, good + [bad]))
         out.append(address_answer(4, 0, b"", 64))
 
 
@@ -260,9 +274,9 @@ def add_pair(cases, table, address, text, ways):
     lines, out = cases.under(table)
     if "A" in ways:
         lines.append(line(b"A", address))
-        out.append(b"0\t" + text + b"\n")
+        out.append(record_answer(0, 0, text))
     if "O" in ways:
-        lines.append(line(b"O", text))
+        lines.append(line(b"O", digits(2048), text))
         out.append(address_answer(0, 0, address, 2048))
 
 

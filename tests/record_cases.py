@@ -108,28 +108,36 @@ def shown(room, text):
 
 def dump(record):
     cut = lambda t: shown(t[1], t[1][: t[0]])
-    singles = b"".join(cut(t) for t in record.single)
-    units = str(min(record.unit_count, 4)).encode() + b"".join(cut(t) for t in record.units)
-    dds = str(min(record.dd_count, 4)).encode() + b"".join(cut(t) + cut(v) for t, v in record.dds)
-    return singles + units + dds + b"".join(shown(room, text) for room, text in record.levels())
+    values = b"".join(cut(t) + shown(*level) for t, level in zip(record.single, record.levels()))
+    counts = b"%d%d" % (min(record.unit_count, 4), min(record.dd_count, 4))
+    lists = b"".join(cut(u) + cut(t) + cut(v) for u, (t, v) in zip(record.units, record.dds))
+    return values + counts + lists
 
 
 class Cases:
     def __init__(self):
         self.stdin, self.stdout = bytearray(), bytearray()
-        self.record, self.kept = Record(), Record()
+        self.begin()
 
-    def line(self, command, number=0, text=b""):
-        """A line of the input: a command, a number in four digits, and bytes in hexadecimal."""
-        self.stdin += b"%s%04d%s\n" % (command.encode(), number, text.hex().encode())
+    def begin(self):
+        self.record, self.kept = Record(), Record()
+        self.commands, self.kept_commands = b"", b""
+
+    def line(self, letter, text):
+        """A line of the input: a letter, and bytes in hexadecimal."""
+        self.stdin += b"%s%s\n" % (letter.encode(), text.hex().encode())
+
+    def command(self, letter, number, text):
+        """A command: its length, a letter, a number in four digits, and bytes."""
+        self.commands += b"%04d%s%04d%s" % (5 + len(text), letter.encode(), number, text)
 
     def byte(self, b):
-        self.line("b", 0, bytes([b]))
+        self.line("b", bytes([b]))
         self.stdout += b"".join(b"1" if b in chars else b"0" for chars in (LETTERS, DIGITS, PRINTABLE, ATOM, LABEL))
         self.stdout += b" %d\n" % (b + 32 if 65 <= b <= 90 else b)
 
     def add(self, kind, *texts):
-        self.line(kind, len(texts[0]) if kind == "d" else 0, b"".join(texts))
+        self.command(kind, len(texts[0]) if kind == "d" else 0, b"".join(texts))
         if kind == "u":
             n = self.record.add_unit(*texts)
         elif kind == "d":
@@ -141,7 +149,8 @@ class Cases:
     def disturb(self, tag, *numbers):
         """Sets a length or a count to what no addition would."""
         value = LARGEST if numbers[-1] == 255 else numbers[-1]
-        self.line(tag, min(value, 9999), bytes(numbers[:-1]))
+        letter, place = {"L": ("L", 0), "M": ("M", 0), "U": ("M", 4), "T": ("T", 0), "V": ("T", 4), "D": ("T", 8)}[tag]
+        self.command(letter, min(value, 9999), bytes([place + (numbers[0] if len(numbers) == 2 else 0)]))
         r = self.record
         if tag == "L":
             r.single[numbers[0]][0] = value
@@ -157,17 +166,17 @@ class Cases:
             r.dd_count = value
 
     def keep(self):
-        self.line(">")
         self.kept, self.record = self.record, Record()
+        self.kept_commands, self.commands = self.commands, b""
 
     def end(self):
-        self.line(".")
+        self.line("r", b"%04d" % len(self.kept_commands) + self.kept_commands + self.commands)
         flags = b"%d%d" % (self.record.canonical(), self.record.same(self.kept))
         self.stdout += b" " + flags + b" " + dump(self.record) + b"\n"
-        self.record, self.kept = Record(), Record()
+        self.begin()
 
     def text(self, s):
-        self.line("w", 0, s)
+        self.line("w", s)
         atoms = all(p != b"" and all(b in ATOM for b in p) for p in s.split(b"."))
         part = bool(re.fullmatch(rb"[A-Za-z0-9]([A-Za-z0-9-]{0,61}[A-Za-z0-9])?", s))
         self.stdout += b"%d%d%d%d\n" % (well_spaced(s), is_text(s), atoms, part)

@@ -1,20 +1,13 @@
 // Runs the cases of `mapping`: the tables in data/, and under each of them addresses mapped to records and records to addresses. The
 // cases and what must be printed are made by tests/mapping_cases.py from answers that nothing of the library wrote.
 //
-// Standard input is lines, their fields one tab apart; bytes are written as pairs of hexadecimal digits, and a length as two bytes,
-// the higher first, 65535 standing for the largest there is:
-//   T NAME          take the table of that name
-//   A BYTES         an address to a record: prints the number, with 0 the record text, with 7 the first bad line
-//   O BYTES         a record text to an address
-//   N               begin a record, with no attribute
-//   V BYTES         its value: one byte for the attribute's number, a length, and what stands at the front of its room
-//   U BYTES         a further unit: a length, and what stands at the front of its room
-//   D BYTES BYTES   a further DD: a length and what stands at the front of its type's room, and the same of its value
-//   C BYTES         the counts of units and of DDs, 255 standing for the largest there is
-//   R BYTES         the record to an address, in a buffer of that length
-// What is printed of an address: the number, with 0 the text, with 7 the first bad line; its length; and how many bytes of the buffer
-// behind that length are as before.
-mod input;
+// Standard input is lines, a byte and a tab at the front of each:
+//   T NAME     take the table of that name
+//   A BYTES    an address to a record: prints the number, the first bad line or 0, and the record text, one tab apart
+//   O BYTES    four digits and a record text: the record to an address, in a buffer of that length
+//   R BYTES    four digits and the parts of a record: the same
+// Bytes are written as pairs of hexadecimal digits. What is printed of a record: the first bad line or 0, a tab, and what the call told and
+// wrote. How a part is written is said in records.rt.
 mod print;
 mod records;
 mod run;

@@ -1,129 +1,81 @@
 // The commands.
-use crate::input::size_at;
 use crate::print::print_to_address;
 use crate::print::print_to_record;
-use crate::records::with_counts;
-use crate::records::with_dd;
-use crate::records::with_unit;
-use crate::records::with_value;
+use crate::records::filled;
 use cases::files::read_file;
 use cases::lines::line;
 use cases::lines::next_line;
-use cases::parts::first_field;
 use cases::parts::front;
 use cases::parts::rest;
-use cases::parts::second_field;
 use cases::print::FILLED;
+use cases::print::say;
+use cases::read::LARGEST;
+use cases::read::number;
 use cases::read::unhex;
 use mapping_to_address::to_address::record_to_address;
 use mapping_to_record::to_record::address_to_record;
 use oraddr::record::Record;
-use ortext_read::read::Answer;
 use ortext_read::read::read_text;
 ghost use Prim.Native.Nat.{_<_, _≤_};
 ghost use lib.ListN.{length};
 
-// A table with one byte too many; a line's bytes; the buffer that an address is written to, at most.
+// A table with one byte too many; a line's bytes.
 const TABLE_ROOM: usize = 65537;
 
 const LINE_ROOM: usize = 8192;
 
-const OUT_ROOM: usize = 4096;
-
-// An address to a record.
-fn run_address(table: &[u8], field: &[u8]) {
-    let mut bytes = [0u8; LINE_ROOM];
-    let n = unhex(&mut bytes, field);
-    print_to_record(address_to_record(table, front(&bytes, n)));
+// A record text's record; one that does not read is not canonical, as the empty record is not.
+fn record_of(tag: u8, s: &[u8]) -> Record {
+    if tag == b'R' {
+        return filled(s);
+    }
+    let reading = read_text(Record::empty(), 0, s);
+    reading.record
 }
 
 // A record to an address, in a buffer.
-fn run_into(table: &[u8], rec: Record, out: &mut [u8]) {
-    let r = record_to_address(table, rec, out);
+fn run_into(table: &[u8], tag: u8, s: &[u8], out: &mut [u8]) {
+    let r = record_to_address(table, record_of(tag, s), out);
     print_to_address(r, out);
 }
 
 // A record to an address, in a buffer of n bytes.
-fn run_record(table: &[u8], rec: Record, n: usize) {
-    let mut out = [FILLED; OUT_ROOM];
-    if OUT_ROOM < n {
+fn run_record(table: &[u8], tag: u8, s: &[u8], n: usize)
+    requires { ⌜ n ≤ 9999 ⌝ }
+{
+    let mut out = [FILLED; LARGEST];
+    run_into(table, tag, s, &mut out[..n]);
+}
+
+fn run_case(table: &[u8], tag: u8, s: &[u8]) {
+    if tag == b'A' {
+        print_to_record(address_to_record(table, s));
         return;
     }
-    run_into(table, rec, &mut out[..n]);
+    run_record(table, tag, rest(s, 4), number(s));
 }
 
-// A record text's record; one that does not read is not canonical, as the empty record is not.
-fn record_of(text: &[u8]) -> Record {
-    let reading = read_text(Record::empty(), 0, text);
-    let answer = reading.answer;
-    match answer {
-        Answer::Done => reading.record,
-        Answer::Unread => Record::empty(),
-        Answer::Refused => Record::empty(),
-        Answer::Again => Record::empty(),
-    }
-}
-
-// A record text to an address.
-fn run_text(table: &[u8], field: &[u8]) {
-    let mut bytes = [0u8; LINE_ROOM];
-    let n = unhex(&mut bytes, field);
-    run_record(table, record_of(front(&bytes, n)), 2048);
-}
-
-// A further attribute, from one field or two.
-fn change(rec: Record, tag: u8, field: &[u8]) -> Record {
-    let mut bytes = [0u8; LINE_ROOM];
-    let n = unhex(&mut bytes, first_field(field));
-    let first = front(&bytes, n);
-    match tag {
-        b'V' => with_value(rec, first),
-        b'U' => with_unit(rec, first),
-        b'C' => with_counts(rec, first),
-        b'D' => {
-            let mut more = [0u8; LINE_ROOM];
-            let m = unhex(&mut more, second_field(field));
-            with_dd(rec, first, front(&more, m))
-        }
-        _ => Record::empty(),
-    }
-}
-
-// The record to an address, in a buffer whose length is the field's.
-fn run_room(table: &[u8], rec: Record, field: &[u8]) {
-    let mut bytes = [0u8; 2];
-    unhex(&mut bytes, field);
-    run_record(table, rec, size_at(&bytes));
-}
-
-// One line under a table: the record after it.
-fn run_line(table: &[u8], rec: Record, case: &[u8]) -> Record {
+// One line under a table.
+fn run_line(table: &[u8], case: &[u8]) {
     if case.len() == 0 {
-        return rec;
+        return;
     }
-    let field = rest(case, 2);
-    match case[0] {
-        b'A' => run_address(table, field),
-        b'O' => run_text(table, field),
-        b'R' => run_room(table, rec, field),
-        tag => {
-            return change(rec, tag, field);
-        }
-    }
-    rec
+    let mut bytes = [0u8; LINE_ROOM];
+    let n = unhex(&mut bytes, rest(case, 2));
+    run_case(table, case[0], &bytes[..n]);
+    say(b"\n");
 }
 
 // Runs the lines from `at` on up to the next table's, and returns where that starts.
 fn run_lines(s: &[u8], at: usize, table: &[u8]) -> usize
     ensures { λ r. ⌜ at ≤ r ⌝ }
 {
-    let mut rec = Record::empty();
     let mut next = at;
     while next < s.len() {
         if s[next] == b'T' {
             return next;
         }
-        rec = run_line(table, rec, line(s, next));
+        run_line(table, line(s, next));
         next = next_line(s, next);
     }
     next

@@ -1,6 +1,10 @@
 // The commands that change the record: additions, and lengths and counts set to anything.
+use crate::print::print_record;
+use cases::parts::front;
+use cases::parts::rest;
 use cases::print::say_number;
 use cases::read::LARGEST;
+use cases::read::number;
 use chars::parts::byte_at;
 use oraddr::add::Added;
 use oraddr::add::Addition;
@@ -11,7 +15,6 @@ use oraddr::record::Dds;
 use oraddr::record::Record;
 use oraddr::record::Singles;
 use oraddr::record::Units;
-use oraddr::value::within;
 
 // The attribute that a command adds.
 fn attribute(tag: u8) -> Attribute {
@@ -37,12 +40,6 @@ fn told(a: Addition) -> Record {
     a.record
 }
 
-// Adds a DD, whose value follows its type of n bytes.
-fn add_dd(rec: Record, n: usize, text: &[u8]) -> Record {
-    let m = within(n, text.len());
-    told(rec.with_dd(&text[..m], &text[m..]))
-}
-
 fn disturb_values(old: Singles, k: usize, n: usize) -> Singles {
     let mut next = old;
     if k < SINGLES {
@@ -53,22 +50,15 @@ fn disturb_values(old: Singles, k: usize, n: usize) -> Singles {
     next
 }
 
-fn disturb_names(old: Units, i: usize, n: usize) -> Units {
+// The length of unit i, or past the units their count.
+fn disturb_units(old: Units, i: usize, n: usize) -> Units {
     let mut next = old;
     if i < MOST {
         let mut name = next.names[i];
         name.len = n;
         next.names[i] = name;
+        return next;
     }
-    next
-}
-
-// M sets a length, U the count.
-fn disturb_units(old: Units, tag: u8, i: usize, n: usize) -> Units {
-    if tag == b'M' {
-        return disturb_names(old, i, n);
-    }
-    let mut next = old;
     next.count = n;
     next
 }
@@ -87,18 +77,18 @@ fn disturb_items(old: Dds, of_type: bool, i: usize, n: usize) -> Dds {
             item.value = value;
         }
         next.items[i] = item;
+        return next;
     }
+    next.count = n;
     next
 }
 
-// T and V set a length, D the count.
-fn disturb_dds(old: Dds, tag: u8, i: usize, n: usize) -> Dds {
-    if tag == b'D' {
-        let mut next = old;
-        next.count = n;
-        return next;
+// The length of a DD's type, or behind the types of its value, or past both the count of DDs.
+fn disturb_dds(old: Dds, i: usize, n: usize) -> Dds {
+    if i < MOST {
+        return disturb_items(old, true, i, n);
     }
-    disturb_items(old, tag == b'T', i, n)
+    disturb_items(old, false, i - MOST, n)
 }
 
 // The length or the count that a number stands for.
@@ -116,25 +106,44 @@ fn disturb(rec: Record, tag: u8, place: usize, n: usize) -> Record {
         next.singles = disturb_values(rec.singles, place, n);
         return next;
     }
-    if tag == b'M' || tag == b'U' {
-        next.units = disturb_units(rec.units, tag, place, n);
+    if tag == b'M' {
+        next.units = disturb_units(rec.units, place, n);
         return next;
     }
-    next.dds = disturb_dds(rec.dds, tag, place, n);
+    next.dds = disturb_dds(rec.dds, place, n);
     next
 }
 
-// The record after a command with a number and bytes.
-pub(crate) fn change(tag: u8, n: usize, text: &[u8], rec: Record) -> Record {
+// The record after a command.
+fn change(rec: Record, s: &[u8]) -> Record {
+    let tag = byte_at(s, 0);
+    let n = number(rest(s, 1));
+    let text = rest(s, 5);
     match tag {
-        b'L' | b'M' | b'T' | b'V' | b'U' | b'D' => disturb(
-            rec,
-            tag,
-            byte_at(text, 0) as usize,
-            size(n),
-        ),
-        b'd' => add_dd(rec, n, text),
+        b'L' | b'M' | b'T' => disturb(rec, tag, byte_at(text, 0) as usize, size(n)),
+        b'd' => told(rec.with_dd(front(text, n), rest(text, n))),
         b'u' => told(rec.with_unit(text)),
         _ => told(rec.with(attribute(tag), text)),
     }
+}
+
+// The record that commands make, in front of each its length in four digits.
+fn made(s: &[u8]) -> Record {
+    let mut rec = Record::empty();
+    let mut at = 0;
+    while at < s.len() {
+        let n = number(rest(s, at));
+        rec = change(rec, front(rest(s, at + 4), n));
+        at += 4 + n;
+    }
+    rec
+}
+
+// A record and the one before it, whose commands are as many bytes as four digits say.
+pub(crate) fn run_record(s: &[u8]) {
+    let text = rest(s, 4);
+    let n = number(s);
+    let other = made(front(text, n));
+    let rec = made(rest(text, n));
+    print_record(rec, other);
 }

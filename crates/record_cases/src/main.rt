@@ -1,15 +1,17 @@
 // Runs the cases of `chars` and of the crates of the record that stand in stdin, and prints what comes of each. The cases and what must be
 // printed are made by tests/record_cases.py, which follows document 01 by itself and runs nothing of the library.
 //
-// Standard input is lines, each a command, a number of four decimal digits, and bytes in hexadecimal:
+// Standard input is lines, each a letter and bytes in hexadecimal:
+//   b    print the classes that have the byte, and its fold
+//   w    print the rules on whole texts that the bytes keep
+//   r    make a record, and then another; print whether this one is canonical, whether it is the same as the first, and what it holds
+// Of `r` the bytes are how many make the first record, in four digits, and commands. A command is the length of what follows, a letter, a
+// number, both numbers of four digits, and bytes:
 //   c a p o s g i q    add the bytes as C, ADMD, PRMD, O, S, G, I or GQ; prints the number
 //   u, d               add a unit, or a DD whose type is as many bytes as the number says, and its value the others; prints the number
-//   L, M, T, V         make the length of value, unit, DD type or DD value k, which is the byte, the number, as a caller may
-//   U, D               make the count of units or of DDs the number
-//   >                  keep the record, and begin another
-//   .                  print whether it is canonical, whether it is the same as the one kept, and what it holds; then begin anew
-//   b                  print the classes that have the byte, and its fold
-//   w                  print the rules on whole texts that the bytes keep
+//   L                  make the length of value k, which is the byte, the number, as a caller may
+//   M                  the same of unit k, and where k is 4 of the count of units
+//   T                  the same of DD type k, from 4 on of the DD values, and where k is 8 of the count of DDs
 // The number 9999 stands for the largest length or count there is.
 mod commands;
 mod print;
@@ -17,76 +19,40 @@ mod rules;
 
 use cases::lines::line;
 use cases::lines::next_line;
-use cases::read::number;
+use cases::parts::rest;
 use cases::read::unhex;
-use commands::change;
-use oraddr::record::Record;
+use commands::run_record;
 use oraddr::value::held;
-use print::print_record;
 use rules::print_byte;
 use rules::print_text;
 
 // Standard input, at most.
-const ROOM: usize = 262144;
+const ROOM: usize = 524288;
 
 // The bytes of a line, at most.
 const TEXT: usize = 512;
 
-// The record that commands change, and the one that was kept.
-struct Pair {
-    record: Record,
-    kept: Record,
-}
-
-fn empty_pair() -> Pair {
-    Pair {
-        record: Record::empty(),
-        kept: Record::empty(),
+fn run_case(tag: u8, text: &[u8]) {
+    match tag {
+        b'b' => print_byte(text),
+        b'w' => print_text(text),
+        _ => run_record(text),
     }
 }
 
-fn run_record(tag: u8, n: usize, text: &[u8], mut pair: Pair) -> Pair {
-    let rec = pair.record;
-    if tag == b'.' {
-        let kept = pair.kept;
-        print_record(rec, kept);
-        return empty_pair();
-    }
-    if tag == b'>' {
-        pair.kept = rec;
-        pair.record = Record::empty();
-        return pair;
-    }
-    pair.record = change(tag, n, text, rec);
-    pair
-}
-
-fn run_command(tag: u8, n: usize, text: &[u8], pair: Pair) -> Pair {
-    if tag == b'b' {
-        print_byte(text);
-        return pair;
-    }
-    if tag == b'w' {
-        print_text(text);
-        return pair;
-    }
-    run_record(tag, n, text, pair)
-}
-
-fn run_line(line: &[u8], pair: Pair) -> Pair {
-    if line.len() < 5 {
-        return pair;
+fn run_line(line: &[u8]) {
+    if line.len() == 0 {
+        return;
     }
     let mut space = [0u8; TEXT];
-    let n = unhex(&mut space, &line[5..]);
-    run_command(line[0], number(&line[1..]), held(&space, n), pair)
+    let n = unhex(&mut space, rest(line, 1));
+    run_case(line[0], held(&space, n));
 }
 
 fn run(s: &[u8]) {
-    let mut pair = empty_pair();
     let mut from = 0;
     while from < s.len() {
-        pair = run_line(line(s, from), pair);
+        run_line(line(s, from));
         from = next_line(s, from);
     }
 }

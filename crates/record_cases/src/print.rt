@@ -1,7 +1,7 @@
 // What the program prints of a record.
 use cases::print::say;
 use cases::print::say_number;
-use oraddr::bounds::LEVELS;
+use oraddr::bounds::MOST;
 use oraddr::bounds::SINGLES;
 use oraddr::record::Dds;
 use oraddr::record::Record;
@@ -76,37 +76,30 @@ fn print_dd(d: DomainDefined) {
     print_dd_value(d.value);
 }
 
-fn print_singles(rec: Record) {
+// The values and the levels, of which there are as many.
+fn print_values(rec: Record) {
     let mut k = 0;
     while k < SINGLES {
         print_value(rec.single(k));
+        print_value(rec.level(k));
         k += 1;
     }
 }
 
 // All places: those past the count are to be empty in a record that only additions made.
-fn print_units(units: Units) {
-    say_number(units.size());
-    print_unit(units.names[0]);
-    print_unit(units.names[1]);
-    print_unit(units.names[2]);
-    print_unit(units.names[3]);
-}
-
-fn print_dds(dds: Dds) {
-    say_number(dds.size());
-    print_dd(dds.items[0]);
-    print_dd(dds.items[1]);
-    print_dd(dds.items[2]);
-    print_dd(dds.items[3]);
-}
-
-fn print_levels(rec: Record) {
-    let mut k = 0;
-    while k < LEVELS {
-        print_value(rec.level(k));
-        k += 1;
+fn print_lists(units: Units, dds: Dds) {
+    let mut i = 0;
+    while i < MOST {
+        print_unit(units.names[i]);
+        print_dd(dds.items[i]);
+        i += 1;
     }
+}
+
+// How many units and how many DDs there are.
+fn print_counts(units: Units, dds: Dds) {
+    say_number(units.size());
+    say_number(dds.size());
 }
 
 // A space, whether it is canonical, whether it is the same as the other, and a space.
@@ -117,12 +110,11 @@ fn print_flags(rec: Record, other: Record) {
     space();
 }
 
-// The flags, the attributes and the levels.
+// The flags, the values with the levels, and the lists.
 pub(crate) fn print_record(rec: Record, other: Record) {
     print_flags(rec, other);
-    print_singles(rec);
-    print_units(rec.units);
-    print_dds(rec.dds);
-    print_levels(rec);
+    print_values(rec);
+    print_counts(rec.units, rec.dds);
+    print_lists(rec.units, rec.dds);
     new_line();
 }

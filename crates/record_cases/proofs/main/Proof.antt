@@ -8,7 +8,7 @@ use Rattle.record_cases.proofs.main.Statement.{statement}
 use Rattle.record_cases.proofs.main.Tie as tie
 
 slice-aggregate-read-and-run : tie.Need-slice-aggregate-read-and-run
-slice-aggregate-read-and-run c = sym (length-replicate {A = ℕ} 262144 0)
+slice-aggregate-read-and-run c = sym (length-replicate {A = ℕ} 524288 0)
 
 returns : tie.Need-returns
 returns c = search needs

@@ -7,10 +7,10 @@ use Rattle.record_cases.proofs.run.Statement.{statement}
 use Rattle.record_cases.proofs.run.Tie as tie
 
 abbrev Inv-loop : tie.InvT-loop
-Inv-loop s pair₀ from₀ pair from = Unit
+Inv-loop s from₀ from = Unit
 
 abbrev μ-loop : tie.MeasureT-loop
-μ-loop s pair₀ from₀ pair from = length s - from
+μ-loop s from₀ from = length s - from
 
 loop-again : tie.Need-loop-again Inv-loop μ-loop
 loop-again c = search needs
@@ -19,5 +19,5 @@ returns : tie.Need-returns Inv-loop μ-loop
 returns c = search needs
 
 pub run-spec : {M : Type 1} → statement M
-run-spec = tie.close (tie.spec Inv-loop μ-loop (λ c κs. search needs) (λ c. search needs) (λ c κs. search needs) (λ c κs. search needs)
-    (λ c κs. search needs) (λ c. search needs) loop-again returns)
+run-spec = tie.close (tie.spec Inv-loop μ-loop (λ c. search needs) (λ c κs. search needs) (λ c κs. search needs) (λ c κs. search needs)
+    (λ c. search needs) loop-again returns)

@@ -14,5 +14,9 @@ returns c = search needs
 returns-2 : tie.Need-returns-2
 returns-2 c = search needs
 
+returns-3 : tie.Need-returns-3
+returns-3 c = search needs
+
 pub print-record-spec : {M : Type 1} → statement M
-print-record-spec = tie.close (tie.spec (λ c κs. search needs) print-text-requires (λ c. search needs) (λ c κs. search needs) returns returns-2)
+print-record-spec = tie.close (tie.spec (λ c κs. search needs) print-text-requires returns (λ c κs. search needs) (λ c κs. search needs)
+    (λ c. search needs) (λ c κs. search needs) returns-2 returns-3)

@@ -19,22 +19,22 @@ write-text-requires c κs =
 
 array-share-prefix-out : tie.Need-array-share-prefix-out
 array-share-prefix-out c =
-    let s = c .before .before .before .before .before in
+    let s = c .before .before .before in
     let r = s .args .rec in
     let l = text-bound (view r) (canonical-view r (s .pre)) 0 in
-    omega (arith, l, c .before .before .before .write-text .ensures .moved)
+    omega (arith, l, c .before .write-text .ensures .moved)
 
-slice-aggregate-say-2 : tie.Need-slice-aggregate-say-2
-slice-aggregate-say-2 c =
-    let s = c .before .before .before .before .before .before in
+slice-aggregate-say : tie.Need-slice-aggregate-say
+slice-aggregate-say c =
+    let s = c .before .before .before .before in
     let r = s .args .rec in
     let l = text-bound (view r) (canonical-view r (s .pre)) 0 in
-    let w = c .before .before .before .before .write-text in
+    let w = c .before .before .write-text in
     sym (length-take-le (w .result) (w .last .0) (omega (arith, l, w .ensures .moved)))
 
 returns : tie.Need-returns
 returns c = search needs
 
 pub print-text-spec : {M : Type 1} → statement M
-print-text-spec = tie.close (tie.spec (λ c. search needs) write-text-requires (λ c. search needs) (λ c κs. search needs) array-share-prefix-out
-    slice-aggregate-say-2 (λ c κs. search needs) returns)
+print-text-spec = tie.close (tie.spec (λ c. search needs) write-text-requires array-share-prefix-out slice-aggregate-say (λ c κs. search needs)
+    returns)

@@ -7,10 +7,10 @@ use Rattle.mapping_cases.proofs.run.run_lines.Statement.{statement}
 use Rattle.mapping_cases.proofs.run.run_lines.Tie as tie
 
 abbrev Inv-loop : tie.InvT-loop
-Inv-loop s at table rec₀ next₀ rec next = at ≤ next
+Inv-loop s at table next₀ next = at ≤ next
 
 abbrev μ-loop : tie.MeasureT-loop
-μ-loop s at table rec₀ next₀ rec next = length s - next
+μ-loop s at table next₀ next = length s - next
 
 returns : tie.Need-returns Inv-loop μ-loop
 returns c = search needs
@@ -22,5 +22,5 @@ returns-2 : tie.Need-returns-2 Inv-loop μ-loop
 returns-2 c = search needs
 
 pub run-lines-spec : {M : Type 1} → statement M
-run-lines-spec = tie.close (tie.spec Inv-loop μ-loop (λ c κs. search needs) (λ c. search needs) (λ c. search needs) returns (λ c κs. search needs)
-    (λ c κs. search needs) (λ c κs. search needs) (λ c. search needs) loop-again returns-2)
+run-lines-spec = tie.close (tie.spec Inv-loop μ-loop (λ c. search needs) (λ c. search needs) returns (λ c κs. search needs) (λ c κs. search needs)
+    (λ c κs. search needs) (λ c. search needs) loop-again returns-2)
