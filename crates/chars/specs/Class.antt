@@ -1,6 +1,6 @@
--- The byte classes of document 01: "The record", "The table text" and "Address to record". Each is written from the
--- list in its sentence, the printable string characters as ranges with the list beside them; nothing else in the project
--- says which bytes a class has.
+-- The byte classes of document 01: "The record", "The table text" and "Address to record", which all crates share. Each is written from the
+-- list in its sentence, the printable string characters as ranges with the list beside them. Classes that one crate alone has (the bytes of
+-- a quoted string, of a comment, of RFC 1137's coding) stand there.
 -- Assumes nothing.
 use Prim.Native.Nat.{ℕ, _<_}
 use mathlib.Core.Bool.{Bool, true, false, _&&_, _||_, not}
@@ -19,7 +19,7 @@ between lo hi b = leb lo b && leb b hi
 abbrev pub highestCode : ℕ
 highestCode = 127
 
--- RFC 822's CHAR: "any ASCII character", 0 to 127
+-- RFC 822's CHAR: any ASCII character, 0 to 127
 unfoldable pub isChar : ℕ → Bool
 isChar b = leb b highestCode
 
@@ -80,12 +80,12 @@ unfoldable pub isQuotable : ℕ → Bool
 unfolding isPrintable
 isQuotable b = isPrintable b || eqb b 36
 
--- RFC 822's specials: ( ) < > @ , ; : \ " . [ ]
+-- RFC 822's specials: `( ) < > @ , ; : \ " . [ ]`
 abbrev pub isSpecial : ℕ → Bool
 unfolding bytes member
 isSpecial b = member b (bytes "()<>@,;:\\\".[]")
 
--- RFC 822's atoms are of "any CHAR except specials, SPACE and CTLs": bytes 33 to 126 without the specials
+-- RFC 822's atoms are of any CHAR but specials, SPACE and CTLs: bytes 33 to 126 without the specials
 unfoldable pub isAtomChar : ℕ → Bool
 unfolding bytes member between
 isAtomChar b = between 33 126 b && not (isSpecial b)

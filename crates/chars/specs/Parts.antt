@@ -1,10 +1,12 @@
 -- A text as parts between separators: split, join, the place of a part, and texts whose parts are all of a class.
 -- Assumes nothing.
-use Prim.Native.Nat.{ℕ, zero, suc}
+use mathlib.Core.Path.{_≡_}
+use Prim.Native.Nat.{ℕ, zero, suc, _+_}
 use mathlib.Core.Bool.{Bool, false, _&&_, _||_, cond}
 use mathlib.Core.List.{List, [], _∷_, _++_}
 use lib.Dec.{eqb}
 use lib.ListN.{take, drop}
+use denote.Ref.{RefT}
 use Rattle.chars.specs.Lists.{all, first, nonEmpty}
 use Rattle.chars.specs.Class.{isAtomChar}
 
@@ -38,6 +40,12 @@ pub record Place : Type 0 where
 -- what stands at a place of a text
 unfoldable pub at : List ℕ → Place → List ℕ
 at s p = take (p .size) (drop (p .start) s)
+
+-- the part of a lent text at a place: its bytes, and that it stands there in the text and is no copy
+pub record Part (s : RefT (List ℕ)) (p : Place) (part : RefT (List ℕ)) : Type 0 where
+  pub holds : part .now ≡ at (s .now) p
+  pub within : part .ptr .0 ≡ s .ptr .0
+  pub stands : part .ptr .1 ≡ p .start + s .ptr .1
 
 -- a part that is not empty and all of the class p
 unfoldable pub isPart : (ℕ → Bool) → List ℕ → Bool

@@ -93,7 +93,7 @@ pub fn is_quotable(b: u8) -> bool
     is_printable(b)
 }
 
-// RFC 822's atom characters: bytes 33 to 126 without ( ) < > @ , ; : \ " . [ ]
+// RFC 822's atom characters: bytes 33 to 126 without `( ) < > @ , ; : \ " . [ ]`.
 pub fn is_atom_char(b: u8) -> bool
     ensures { λ r. ⌜ r ≡ isAtomChar b ⌝ }
 {

@@ -11,7 +11,7 @@ ghost use Rattle.chars.specs.Domain.{isDomainPart};
 ghost use Rattle.chars.specs.Parts.{isAtoms, isParted, run};
 ghost use Rattle.chars.specs.Spaces.{isText, wellSpaced};
 
-// The byte at a place, 0 past the end: 0 is in no class.
+// The byte at a place, 0 past the end. A 0 may stand in a text too, so a caller asks only for bytes that are not 0.
 pub fn byte_at(s: &[u8], i: usize) -> u8
     ensures { λ r. ⌜ r ≡ getD (now (s .entry)) i 0 ⌝ }
 {

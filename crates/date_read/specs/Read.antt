@@ -38,7 +38,7 @@ twoDigits s k =
     cond (isDigit (getD s k 0) && isDigit (getD s (k + 1) 0))
     ((getD s k 0 - 48) * 10 + (getD s (k + 1) 0 - 48)) noNumber
 
--- "month names are written as RFC 822 spells them"
+-- RFC 822 section 5.1: the names of the months
 abbrev pub monthNames : List (List ℕ)
 unfolding bytes
 monthNames =
@@ -72,7 +72,7 @@ numberIn k (n ∷ ns) s = cond (sameText n s) k (numberIn (suc k) ns s)
 abbrev pub noOffset : ℤ
 noOffset = pos 1440
 
--- "a sign with hhmm"; "`-0330` is minus 210"
+-- a sign and four digits: "Offset hours are 00 to 23, minutes 00 to 59, and `-0330` is minus 210"
 unfoldable pub signed : Bool → ℕ → ℤ
 signed minus n = cond minus (negℤ (pos n)) (pos n)
 
@@ -87,7 +87,7 @@ unfoldable pub zoneOf : List (List ℕ) → List ℕ → ℤ
 unfolding numberIn offsetOf
 zoneOf names s = cond (eqb (numberIn 1 names s) 0) (offsetOf s) (pos 0)
 
--- "X.400's `Z` (in UTCTime alone), the names `GMT` and `UT` (in date-time alone)"
+-- "X.400's `Z`, the names `GMT` and `UT`": the one is read in UTCTime alone, the others in date-time alone (a choice: docs/DECISIONS.md)
 abbrev pub utcNames : List (List ℕ)
 unfolding bytes
 utcNames = bytes "Z" ∷ []
@@ -96,7 +96,7 @@ abbrev pub dateNames : List (List ℕ)
 unfolding bytes
 dateNames = bytes "GMT" ∷ bytes "UT" ∷ []
 
--- ---- UTCTime: "YYMMDDhhmm, optional ss, and a zone"
+-- ---- UTCTime: two digits each of year, month, day, hour and minute, perhaps of the second, and a zone
 
 -- seconds are there where a digit follows the minutes
 unfoldable pub utcEnd : List ℕ → ℕ
@@ -128,9 +128,10 @@ unfoldable pub readUtc : List ℕ → Option DateTime
 unfolding kept utcDate
 readUtc s = kept (utcDate s)
 
--- ---- date-time: "an optional day name and comma, day, month name, two-digit year, hh:mm, optional :ss, zone. Parts stand one space apart"
+-- ---- date-time, RFC 822 section 5.1: perhaps a day name and a comma; day, month name, year of two digits, hour, minute, perhaps second, zone.
+-- "Parts stand one space apart"
 
--- "the day in one or two digits"; what stands behind it begins " Mon YY hh:mm", and seconds are there where a colon follows
+-- "the day in one or two digits"; what stands behind it begins as ` Mon YY hh:mm`, and seconds are there where a colon follows
 unfoldable pub restEnd : List ℕ → ℕ
 restEnd r = cond (eqb (getD r 13 0) 58) 16 13
 

@@ -196,7 +196,7 @@ fn utc_end(s: &[u8]) -> usize
     if is_digit(byte_at(s, 10)) { 12 } else { 10 }
 }
 
-// The second that ends at a place, if it is told.
+// The second whose two digits start at `k`; absent where `told` says that there is none.
 fn second_at(s: &[u8], told: bool, k: usize) -> Second
     requires { ⌜ k ≤ lastPlace ⌝ }
     ensures { λ r. ⌜ r ≡ cond told (At (twoDigits (now (s .entry)) k)) Absent ⌝ }

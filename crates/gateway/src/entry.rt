@@ -19,7 +19,7 @@ use oraddr::record::Record;
 use soundness::answers::Checked;
 ghost use mathlib.Core.Path.{_≡_};
 ghost use Rattle.oraddr.specs.Add.{addDd, addSingle, addUnit, placeOf, told};
-ghost use Rattle.mailaddr.specs.Tail.{sharedTail};
+ghost use Rattle.mailaddr.specs.Tail.{TailShown};
 ghost use Rattle.table.specs.Lines.{loadedFrom};
 ghost use Rattle.mapping.specs.Answers.{toldAddress, toldRecord};
 ghost use Rattle.mapping.specs.ToAddress.{recordToAddress};
@@ -70,7 +70,7 @@ pub fn add_dd(rec: Record, kind: &[u8], value: &[u8]) -> Addition
 
 // The longest tail of the first domain by whole parts that the second has too, case aside, as a part of the first.
 pub fn shared_tail<'a, 'b>(first: &'a [u8], second: &'b [u8]) -> &'a [u8]
-    ensures { λ r. ⌜ now r ≡ sharedTail (now (first .entry)) (now (second .entry)) ⌝ }
+    ensures { λ r. ⌜ TailShown (first .entry) (now (second .entry)) r ⌝ }
 {
     mailaddr::tail::shared_tail(first, second)
 }

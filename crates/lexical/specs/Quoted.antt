@@ -1,4 +1,4 @@
--- RFC 822, section 3.3: quoted-string = <"> *(qtext/quoted-pair) <">; and request 2: "Quoted strings hold bytes 32 to 126 once folds lose CR and
+-- RFC 822, section 3.3: `quoted-string = <"> *(qtext/quoted-pair) <">`; and request 2: "Quoted strings hold bytes 32 to 126 once folds lose CR and
 -- LF."
 -- Assumes nothing.
 use Prim.Native.Nat.{ℕ, zero, suc}

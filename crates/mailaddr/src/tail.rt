@@ -4,11 +4,11 @@ use chars::case::same_text;
 ghost use mathlib.Core.Path.{_≡_};
 ghost use Prim.Native.Nat.{_-_};
 ghost use lib.ListN.{length};
-ghost use Rattle.mailaddr.specs.Tail.{sharedTail};
+ghost use Rattle.mailaddr.specs.Tail.{TailShown, sharedTail};
 
 // The longest tail of `a` by whole parts that `b` has too, case aside, as a part of `a`; with nothing shared, its empty end.
 pub fn shared_tail<'a, 'b>(a: &'a [u8], b: &'b [u8]) -> &'a [u8]
-    ensures { λ r. ⌜ now r ≡ sharedTail (now (a .entry)) (now (b .entry)) ⌝ }
+    ensures { λ r. ⌜ TailShown (a .entry) (now (b .entry)) r ⌝ }
 {
     let from = tail_start(a, b);
     &a[from..]

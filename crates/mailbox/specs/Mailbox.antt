@@ -81,7 +81,7 @@ placeBy tooDeep = emptyStart
 placeBy noMailbox = emptyStart
 placeBy (read b) = b .phrase
 
--- with a buffer: "on every refusal", 6 among them, the line's empty start
+-- with a buffer: "with none or refused, that line's empty start", 6 among the refusals
 unfoldable pub placeIn : TextResult → Reading → Place
 unfolding placeBy
 placeIn o r = cond (ltb 0 (o .number)) emptyStart (placeBy r)
@@ -98,7 +98,7 @@ unfoldable pub readMailbox : List ℕ → List ℕ → MailboxResult
 unfolding reading mailboxBy
 readMailbox s old = mailboxBy (reading s) old
 
--- with no buffer, "as if there were room"
+-- with no buffer, as one with room would have it
 unfoldable pub phrasePlace : List ℕ → Place
 unfolding reading placeBy
 phrasePlace s = placeBy (reading s)

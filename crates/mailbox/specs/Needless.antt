@@ -1,5 +1,5 @@
--- Backslashes that could be left out. A bare address of the accepted shape is written as it was read "to the byte where no backslash in it is
--- needless".
+-- Backslashes that could be left out. A bare address of the accepted shape is written as it was read, to the byte, where no backslash in it is
+-- needless.
 -- Assumes nothing.
 use Prim.Native.Nat.{ℕ}
 use mathlib.Core.Bool.{Bool, true, _&&_, _||_, not, cond}

@@ -160,7 +160,7 @@ phraseFrom e (word w ∷ ts) = phraseFrom (w .end) ts
 
 -- ---- mailbox = addr-spec / phrase route-addr
 
--- "It shows where the phrase stands, .. first word to last", or size 0 at the line's start
+-- "shows where the phrase stands in the lent line, first word to last", or size 0 at the line's start
 pub record Mailbox : Type 0 where
   pub local : List Word
   pub domain' : List Word

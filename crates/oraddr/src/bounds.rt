@@ -46,30 +46,30 @@ pub const OWN_LEVELS: usize = 4;
 // How many units, and how many DDs, a record has at most.
 pub const MOST: usize = 4;
 
-// The room for a value in the record: the largest bound of an attribute that a record has once, and the bounds of units and DDs.
-pub const VALUE_ROOM: usize = 64;
-
-pub const OU_ROOM: usize = 32;
-
-pub const DD_TYPE_ROOM: usize = 8;
-
-pub const DD_VALUE_ROOM: usize = 128;
-
 // X.411's upper bounds. C has three digits, or the two letters of the last entry.
 pub const BOUNDS: [usize; ENTRIES] = [
-    3,
-    16,
-    16,
-    VALUE_ROOM,
-    40,
-    16,
-    5,
-    3,
-    OU_ROOM,
-    DD_TYPE_ROOM,
-    DD_VALUE_ROOM,
-    2,
+    3, // C
+    16, // ADMD
+    16, // PRMD
+    64, // O
+    40, // S
+    16, // G
+    5, // I
+    3, // GQ
+    32, // OU
+    8, // DD_TYPE
+    128, // DD_VALUE
+    2, // C_LETTERS
 ];
+
+// The rooms of the record's texts, from the table. O has the largest bound of the attributes that a record has once.
+pub const VALUE_ROOM: usize = BOUNDS[O];
+
+pub const OU_ROOM: usize = BOUNDS[OU];
+
+pub const DD_TYPE_ROOM: usize = BOUNDS[DD_TYPE];
+
+pub const DD_VALUE_ROOM: usize = BOUNDS[DD_VALUE];
 
 pub fn bound(k: usize) -> usize
     requires { ⌜ k < entries ⌝ }

@@ -1,5 +1,5 @@
--- What the theorems on coded text are said in. Request 9's ruling: "Coded text is atoms joined by dots exactly when the text is not empty,
--- has no `@`, and its dots are single and inner."
+-- What the theorems on coded text are said in: coded text is atoms joined by dots exactly when the text is not empty, has no `@`, and its
+-- dots are single and inner.
 -- Assumes nothing.
 use Prim.Native.Nat.{ℕ}
 use mathlib.Core.Bool.{Bool, _&&_, _||_, not}
@@ -14,12 +14,12 @@ unfoldable pub isCodedChar : ℕ → Bool
 unfolding isPlain
 isCodedChar b = isPlain b || eqb b 95 || eqb b 35
 
--- "its dots are single and inner"
+-- its dots are single and inner
 unfoldable pub dotsSingleInner : List ℕ → Bool
 unfolding first last sideBySide
 dotsSingleInner s = not (sideBySide 46 s) && not (eqb (first s) 46) && not (eqb (last s) 46)
 
--- "not empty, has no `@`, and its dots are single and inner"
+-- not empty, with no `@`, and its dots are single and inner
 unfoldable pub isCodedAtoms : List ℕ → Bool
 unfolding nonEmpty member dotsSingleInner
 isCodedAtoms s = nonEmpty s && not (member 64 s) && dotsSingleInner s

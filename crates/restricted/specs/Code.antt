@@ -16,7 +16,7 @@ use Rattle.chars.specs.Digits.{digitsNumber, isNumberGroup}
 
 -- ---- characters
 
--- RFC 822's CTL: "any ASCII control character and DEL", 0 to 31 and 127
+-- RFC 822's CTL: the ASCII control characters, 0 to 31, and DEL, 127
 unfoldable pub isControl : ℕ → Bool
 isControl b = leb b 31 || eqb b 127
 
@@ -58,7 +58,7 @@ unfoldable pub letterOf : ℕ → ℕ
 unfolding letterIn
 letterOf b = letterIn b shortForms
 
--- request 9's ruling: "Letters in groups are read case aside"
+-- letters in groups are read case aside, as everywhere (a choice: docs/DECISIONS.md)
 unfoldable pub charOf : ℕ → ℕ
 unfolding charIn foldCase
 charOf l = charIn (foldCase l) shortForms

@@ -121,7 +121,7 @@ pub record Fresh (T : Table) (r : Row) (f : Tok) : Type 0 where
   pub newR : (s : Row) → List·Memᴰ s (T .R) → length (r .key) < length (s .key) → getD (s .key) (length (r .key)) [] ≡ f → ⊥
   pub newD : (s : Row) → List·Memᴰ s (T .D) → length (r .val) < length (s .key) → getD (s .key) (length (r .val)) [] ≡ f → ⊥
 
--- a candidate with a fresh token behind the row's path that passes the test "is a domain part" so, and it comes back
+-- a candidate with a fresh token behind the row's path that is a domain part, or is none, as `isPart` says, and it comes back
 pub record Tried (T : Table) (r : Row) (isPart : Bool) : Type 0 where
   pub f : Tok
   pub fresh : Fresh T r f

@@ -70,7 +70,7 @@ unfoldable pub isRow : ℕ → Row → Bool
 unfolding isDomain isPath
 isRow most r = leb (length (r .domain)) most && isDomain (r .domain) && isPath (r .path)
 
--- the row of a line with the tag t: "a domain, a path", one tab between fields
+-- the row of a line: its fields, one tab between two, are the tag, the domain, and those of the path
 unfoldable pub rowOf : List Token → Row
 rowOf fs = record { domain = getD fs 1 []; path = drop 2 fs }
 

@@ -32,7 +32,7 @@ pub enum Settled {
     PastBound,
 }
 
-// The answer, and with Levels the record that has them; else an empty one.
+// The answer, and with Levels the record that has them. With any other the record says nothing: what was added so far may stand in it.
 pub struct Settlement {
     pub answer: Settled,
     pub record: Record,

@@ -8,12 +8,13 @@ use native.Mathlib.Omega.{arith}
 use mathlib.Core.Bool.{true, false, cond}
 use mathlib.Core.List.{List, [], _∷_, _++_, append-assoc, append-nil, reverse, reverse-append, reverse-cons}
 use lib.ListN.{length, take, drop, length-append, length-drop, take-append-drop}
-use lib.Seq.{append-snoc, drop-at, length-take-le}
+use lib.Seq.{append-snoc, drop-at, length-take-le, take-all}
+use denote.Ref.{RefT}
 use Rattle.chars.specs.Case.{agree, sameText}
-use Rattle.chars.specs.Parts.{join, run}
+use Rattle.chars.specs.Parts.{at, join, run}
 use Rattle.chars.proofs.Laws.Lists.{and-both, and-left, and-right, by-test}
 use Rattle.mailaddr.specs.Domain.{domainOf, partsOf}
-use Rattle.mailaddr.specs.Tail.{shared, sharedTail}
+use Rattle.mailaddr.specs.Tail.{TailShown, shared, sharedTail, tailPlace}
 use Rattle.mailaddr.proofs.Laws.Domain.{domain-parts, left-none, left-some, part-first, partsLeft}
 
 -- ---- a tail of the first by whole parts
@@ -115,6 +116,22 @@ tail-drop a b =
     let n : ℕ = length a - length (sharedTail a b) in
     ap (drop n) (sym (r .1))
     ∙ drop-at (r .0) (sharedTail a b) n (omega (arith, ap length (r .1), length-append (r .0) (sharedTail a b)))
+
+-- what stands at its place in the first is the tail
+pub tail-place : (a b : List ℕ) → at a (tailPlace a b) ≡ sharedTail a b
+unfolding at
+tail-place a b =
+    let n : ℕ = length a - length (sharedTail a b) in
+    take-all (length (sharedTail a b)) (drop n a) (omega (arith, ap length (tail-drop a b))) ∙ tail-drop a b
+
+-- the part of the first from where it starts up to the end shows it
+pub tail-shown : (a : RefT (List ℕ)) (b : List ℕ) (part : RefT (List ℕ)) (r : ℕ) → r ≡ length (a .now) - length (sharedTail (a .now) b)
+    → part .now ≡ take (length (a .now) - r) (drop r (a .now)) → part .ptr .0 ≡ a .ptr .0 → part .ptr .1 ≡ r + a .ptr .1 → TailShown a b part
+tail-shown a b part r e h w p =
+    let s : List ℕ = a .now in
+    let t : part .now ≡ sharedTail s b =
+    h ∙ take-all (length s - r) (drop r s) (omega (arith, length-drop r s)) ∙ ap (λ (n : ℕ). drop n s) e ∙ tail-drop s b in
+    record { tail = t; place = record { holds = t ∙ sym (tail-place s b); within = w; stands = p ∙ ap (λ (n : ℕ). n + a .ptr .1) e } }
 
 -- where it starts, by what its parts take
 pub tail-at : (a b : List ℕ) (p : ℕ) → p ≤ length a → spread (partsOf a) (partsOf b) + p ≡ suc (length a) → p ≡ length a - length (sharedTail a b)

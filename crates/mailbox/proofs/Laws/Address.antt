@@ -83,7 +83,7 @@ pub bare-parts : (l d : List ℕ) (q : Bool) (u : List ℕ) → ReadLocal l d q 
 unfolding bareIn bareOf tokensAt mailbox orElse whole ended
 bare-parts l d q u k h = rw (addr-parts l d q u k h, k .quotes, k .means, words-split (suc (length l)) d)
 
--- ---- "A bare address of accepted shape reads with no phrase as an address of the same meaning, the same unquoted local part and the same domain"
+-- ---- a bare address of accepted shape reads with no phrase as an address of the same meaning: the same unquoted local part and the same domain
 
 local-reads : (q : Bool) (l d : List ℕ) → IsLocal q l → ReadLocal l d q (unquotedLocal (record { local = l; isQuoted = q; domain = d }))
 unfolding IsLocal unquotedLocal

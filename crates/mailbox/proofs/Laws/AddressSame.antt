@@ -68,7 +68,7 @@ unfolding IsLocal localText unquotedLocal
 same-local true l d k h = same-quoted l (64 ∷ d) k h
 same-local false l d k h = refl
 
--- "and to the byte where no backslash in it is needless"
+-- and to the byte where no backslash in it is needless
 pub address-same : (s : List ℕ) (a : Address) → shapeOf s ≡ some a → noNeedless s ≡ true
     → bareText (record { local = unquotedLocal a; isQuoted = a .isQuoted; domain = a .domain; phrase = emptyStart }) ≡ s
 unfolding bareText
