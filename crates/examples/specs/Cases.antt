@@ -102,6 +102,7 @@ cases =
     ∷ coding (bytes "\"a  b\"@c.test") (aText (some (bytes "(q)a (032)b(q)(a)c.test")))
     -- "`(128)` does not decode; `(127)` decodes to a byte no address may have."
     ∷ decoding (bytes "(128)") (aText none)
+    ∷ decoding (bytes "(127)") (aText (some (127 ∷ [])))
     ∷ decoding (bytes "a(a)b(127)") (aText (some (97 ∷ 64 ∷ 98 ∷ 127 ∷ [])))
     ∷ shaping (97 ∷ 64 ∷ 98 ∷ 127 ∷ []) (aText none)
     ∷ shaping (97 ∷ 64 ∷ 98 ∷ []) (aText (some (98 ∷ [])))

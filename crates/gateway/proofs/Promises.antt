@@ -2,20 +2,20 @@
 -- Assumes nothing.
 use mathlib.Core.Path.{_≡_, refl, sym, ap, subst, _∙_}
 use mathlib.Core.Logic.{inl, inr}
-use mathlib.Core.Bool.{true, false, cond}
+use mathlib.Core.Bool.{true, false, cond, _&&_}
 use mathlib.Core.List.{List, [], _∷_}
 use mathlib.Core.Option.{Option, none, some}
-use Prim.Native.Nat.{ℕ, _≤_, _<_}
+use Prim.Native.Nat.{ℕ, _+_, _≤_, _<_}
 use native.Mathlib.Omega.{arith}
-use borrow.Author.Tests.{eqb-true, le-ltb, lt-ltb, ltb-false}
+use borrow.Author.Tests.{eqb-true, le-ltb, lt-ltb, ltb-false, eq-eqb, ne-eqb}
 use lib.Dec.{eqb, ltb}
-use lib.ListN.{length}
+use lib.ListN.{length, take, drop, getD, length-append}
 use Rattle.chars.specs.Lists.{all, member}
-use Rattle.chars.specs.Write.{front, placedText, refusedText}
+use Rattle.chars.specs.Write.{front, placedText, refusedText, Wrote}
 use Rattle.chars.proofs.Laws.Lists.{by-test, true-not-false}
-use Rattle.chars.proofs.Laws.Write.{drop-front, length-front}
-use Rattle.oraddr.specs.Canonical.{canonicalRecord}
-use Rattle.oraddr.specs.View.{emptyRecord, view}
+use Rattle.chars.proofs.Laws.Write.{drop-front, length-front, wrote-front, wrote-taken}
+use Rattle.oraddr.specs.Canonical.{canonicalRecord, isDd, isUnit}
+use Rattle.oraddr.specs.View.{emptyRecord, view, domainDefinedOf, valueOf}
 use Rattle.oraddr.specs.declared.record.Record.{Record}
 use Rattle.ortext_read.specs.Apply as apply
 use Rattle.ortext_read.specs.Apply.{again, read, readText, refused, unread}
@@ -27,13 +27,13 @@ use Rattle.mailaddr.specs.Shape.{Address, longestAddress, shapeOf}
 use Rattle.table.specs.Lines.{TableOutcome, loadedFrom, malformed, wellFormed}
 use Rattle.table.specs.Table.{Table}
 use Rattle.mapping.specs.Carried.{carriedWhole, carrierOf, carrying, longestCoded, resultOf}
-use Rattle.mapping.specs.Results.{RecordResult, malformedAddress, malformedRecord, mapped, placed, refusedAddress, refusedRecord}
-use Rattle.mapping.specs.ToAddress.{addressOf, placedIn, recordToAddress, toAddress, toAddressBy}
+use Rattle.mapping.specs.Results.{RecordResult, malformedAddress, malformedRecord, mapped, placed, refusedAddress, refusedRecord, AddressResult}
+use Rattle.mapping.specs.ToAddress.{addressOf, placedIn, recordToAddress, toAddress, toAddressBy, isCarrier}
 use Rattle.mapping.specs.ToRecord.{addressToRecord, recordBy, recordIn, toRecord, toRecordBy}
 use Rattle.mapping.proofs.Laws.CarriedBack.{carried-back-text}
 use Rattle.mapping.proofs.Laws.Whole.{returned-canonical}
 use Rattle.soundness.specs.Check.{CheckResult, Demand3}
-use Rattle.soundness.specs.Sound.{Sound}
+use Rattle.soundness.specs.Sound.{Sound, IsReturned}
 use Rattle.dates.specs.Convert.{converted, dateToUtc, utcToDate}
 use Rattle.date_read.specs.Read.{readDate, readUtc}
 use Rattle.dates.specs.Write.{dateText, utcText}
@@ -51,16 +51,25 @@ use Rattle.lexical.specs.Tokens.{longestLine}
 use Rattle.lexical.proofs.Laws.Depth.{nested, nested-too-deep}
 use Rattle.mailbox.specs.Mailbox.{Bare, bareIn, bareText, mailboxBy, phrasePlace, placeIn, readMailbox, reading, readingOf, textBy}
 use Rattle.mailbox.proofs.Laws.Address.{address-reading}
-use Rattle.mailbox.proofs.Laws.AddressSame.{address-same}
+use Rattle.mailbox.proofs.Laws.AddressSame.{address-same, address-needless}
 use Rattle.mailbox.proofs.Laws.Again.{unnamed-text, written-again}
 use Rattle.mailbox.proofs.Laws.Bare.{written-meaning, written-shape}
 use Rattle.router.proofs.Laws.Calls.{call-moves, calls-whole}
 use Rattle.router_line.proofs.Laws.Line.{loaded-rules}
 use Rattle.gateway_mailbox.proofs.Laws.Mailboxes.{place-inside, result-inside}
-use Rattle.gateway_pack.proofs.Laws.Packed.{number-back, size-back}
+use Rattle.gateway_pack.proofs.Laws.Packed.{number-back, size-back, count-back, count-number}
 use Rattle.gateway_text.specs.Texts.{readOutcome, recordOfText, textOfRecord}
 use Rattle.gateway.specs.Exports.{addressToText, readingToAddress, textResult, textToAddress, textToAddressBy}
-use Rattle.gateway.specs.Promises.{Accepted, AddressRules, Dates, Demand1, Demand2, Demand3Exactly, EndsBuffer, EndsRecord, Judgement, MailboxRules, Mailboxes, Packing, Promises, RecordRules, Restricted, Router, withoutLine}
+use Rattle.gateway.specs.Promises.{Accepted, AddressRules, Dates, Demand1, Demand2, Demand3Exactly, EndsBuffer, EndsRecord, Judgement, MailboxRules, Mailboxes, Packing, Promises, RecordRules, Restricted, Router, withoutLine, Limits, Returns, SharedTails, Struct}
+use native.Mathlib.Nat.{zero-add}
+use Rattle.chars.specs.Parts.{run}
+use Rattle.oraddr.specs.Add.{addDd, addSingle, addUnit, pushDd, pushUnit, setSingle}
+use Rattle.oraddr.specs.Bounds.{most, rule}
+use Rattle.mailaddr.specs.Tail.{sharedTail, tailPlace}
+use Rattle.mailaddr.proofs.Laws.Tail.{tail-drop, tail-longest, tail-place, tail-second, tail-suffix}
+use Rattle.soundness.proofs.Laws.Comes.{not-six-room, room-not-six}
+use Rattle.router.specs.Run.{called, ended}
+use Rattle.gateway.proofs.Laws.Entire.{addition-ends, short-shape, under-text, unshortened}
 use Rattle.gateway.proofs.Laws.Exports.{not-canonical}
 
 -- ---- demand 1
@@ -164,7 +173,7 @@ written-ends r old =
     (λ c. rw c (left (4 ∷ 6 ∷ []) old 4 refl))
 
 pub demand1 : Demand1
-unfolding addressToRecord recordToAddress recordOfText addressToText textToAddress
+unfolding addressToRecord recordToAddress recordOfText addressToText textToAddress addSingle addUnit addDd
 demand1 =
     record {
       to-record = λ table s. record-ends (loadedFrom table) s;
@@ -173,18 +182,20 @@ demand1 =
       write-record = written-ends;
       address-text = λ table s old. text-ends (toRecordBy (loadedFrom table) s) old (record-ends (loadedFrom table) s);
       text-address = λ table s old. sent-ends (loadedFrom table) s old;
+      add = λ r k v. addition-ends (rule k v && eqb (getD (r .singles .values) k (valueOf []) .len) 0)
+          (record { singles = setSingle (r .singles) k v; units = r .units; dds = r .dds }) r;
+      add-unit = λ r v. addition-ends (isUnit v && ltb (r .units .count) most) (record { singles = r .singles; units = pushUnit (r .units) v; dds = r .dds }) r;
+      add-dd = λ r t v. addition-ends (isDd (record { kind = t; value = v }) && ltb (r .dds .count) most)
+          (record { singles = r .singles; units = r .units; dds = pushDd (r .dds) (domainDefinedOf t v) }) r;
+      unshortened = unshortened;
     }
 
 -- ---- demand 2
 
--- the shape of a text that is too long, and of one that is not
+-- the shape of a text that is too long
 long-shape : (s : List ℕ) → longestAddress < length s → shaping s ≡ tooLong
 unfolding shaping
 long-shape s l = rw (lt-ltb longestAddress (length s) l)
-
-short-shape : (s : List ℕ) (o : Option Address) → length s ≤ longestAddress → shapeOf s ≡ o → shaping s ≡ fromShape o
-unfolding shaping
-short-shape s o l h = rw (le-ltb longestAddress (length s) l, h)
 
 -- what is read of an address that is not carried whole is a record
 read-whole : (x : apply.Reading) → canonicalRecord (recordIn x) ≡ true → x ≡ read (recordIn x)
@@ -201,8 +212,7 @@ module _ (table s : List ℕ) where
 
   module _ (t : Table) (h : loadedFrom table ≡ wellFormed t) where
     under : addressToRecord table s ≡ toRecord t s
-    unfolding addressToRecord toRecordBy
-    under = rw h
+    under = under-text table s t h
 
     by-shaping : (x : Shaping) → shaping s ≡ x → addressToRecord table s ≡ recordBy t s x
     unfolding toRecord
@@ -322,7 +332,27 @@ same-table : (t u : Table) → wellFormed t ≡ wellFormed u → t ≡ u
 unfolding tableOf
 same-table t u h = ap (tableOf u) h
 
+-- what comes back under a table does so by the results under its text
+returned-under : (table : List ℕ) (t : Table) (r : Record) (old : List ℕ) → loadedFrom table ≡ wellFormed t → IsReturned t r (toAddress t r old)
+    → Returns table r old
+returned-under table t r old h w =
+    let o = toAddress t r old in
+    let e = sent-under table r old t h in
+    record {
+      written = ap (λ (x : AddressResult). x .number) e ∙ w .done;
+      read = rw (e, under-text table (take (o .size) (o .buffer)) t h) (w .back .done, w .back .same);
+    }
+
 module _ (table : List ℕ) (o : CheckResult) where
+  -- a sound table, by the results of the two mappings
+  all-return : (t u : Table) (r : Record) (old : List ℕ) → loadedFrom table ≡ wellFormed t → Sound t → loadedFrom table ≡ wellFormed u → Struct r
+      → canonicalRecord r ≡ true → isCarrier u (view r) ≡ false → (recordToAddress table r old .number ≡ 6 → ⊥) → Returns table r old
+  all-return t u r old e sound f s c free n =
+      let z = same-table t u (sym e ∙ f) in
+      let w = subst Sound z sound r (s .values) c free old
+      (not-six-room u r old (λ k. n (ap (λ (x : AddressResult). x .number) (sent-under table r old u f) ∙ k))) in
+      returned-under table u r old f w
+
   judgement : (l : TableOutcome) → loadedFrom table ≡ l → Demand3 l o → Judgement table o
   unfolding member
   judgement (malformed n) e d =
@@ -331,7 +361,10 @@ module _ (table : List ℕ) (o : CheckResult) where
         accepted = λ a. other-table (a .spelled) n (sym (a .formed) ∙ e);
         shows = λ z. absurd (omega (arith, d .number));
         malformed-line = λ z. e ∙ ap malformed (sym (d .line));
+        returns = λ t r old z f s c free n. absurd (omega (arith, d .number));
         none-else = rw (d .number);
+        empty = λ n. d .empty;
+        no-line = λ n. absurd (n (d .number));
       }
   judgement (wellFormed t) e (inl a) =
       record {
@@ -339,7 +372,10 @@ module _ (table : List ℕ) (o : CheckResult) where
         accepted = λ _. a .number;
         shows = λ z. absurd (omega (arith, a .number));
         malformed-line = λ z. absurd (omega (arith, a .number));
+        returns = λ u r old z f s c free n. all-return t u r old e (a .sound) f s c free n;
         none-else = rw (a .number);
+        empty = λ n. a .empty;
+        no-line = λ n. a .line;
       }
   judgement (wellFormed t) e (inr r) =
       record {
@@ -347,7 +383,10 @@ module _ (table : List ℕ) (o : CheckResult) where
         accepted = λ a. absurd (lost a);
         shows = λ z. record { spelled = t; formed = e; witness = r .witness };
         malformed-line = λ z. absurd (omega (arith, r .number));
+        returns = λ u q old z f s c free n. absurd (omega (arith, r .number));
         none-else = rw (r .number);
+        empty = λ n. absurd (n (r .number));
+        no-line = λ n. r .line;
       }
     where
       lost : Accepted table → ⊥
@@ -356,21 +395,67 @@ module _ (table : List ℕ) (o : CheckResult) where
           w .lost (subst Sound (same-table (a .spelled) t (sym (a .formed) ∙ e)) (a .sound) (o .record') (w .struct) (w .canonical) (w .free))
 
 pub demand3 : Demand3Exactly
-demand3 table o d = judgement table o (loadedFrom table) refl d
+demand3 =
+    record {
+      judges = λ table o d. judgement table o (loadedFrom table) refl d;
+      room = λ t r old. record { not-six = room-not-six t r old; has-room = not-six-room t r old };
+    }
 
 -- ---- the router
+
+-- where no separator stops a run, there is none
+no-separator : (s : List ℕ) → run 10 s ≡ length s → member 10 s ≡ false
+unfolding run member
+no-separator [] h = refl
+no-separator (x ∷ s) h =
+    by-test (eqb x 10)
+    (λ e. absurd (omega (arith, rw e at h)))
+    (λ e. rw (ne-eqb 10 x (λ z. true-not-false (eqb x 10) (eq-eqb x 10 (sym z)) e), no-separator s (omega (arith, rw e at h))))
+
+written-front : (text old new : List ℕ) (n : ℕ) → Wrote old 0 text n new → n ≤ length old → (take n new ≡ text) × (drop n new ≡ drop n old)
+written-front text old new n w h =
+    let l : length text ≤ length old = omega (arith, w .moved) in
+    (wrote-taken w l, rw (w .moved, zero-add, wrote-front w l) (drop-front text old))
 
 pub router : Router
 router =
     record {
       output = λ table input out c. calls-whole c;
-      moves = λ table s old new over last r c k z. call-moves (loaded-rules table) c k z;
+      ended = λ table over. ended over;
+      called = λ table kept chunk rest out old new over last r c k d. called over last kept chunk rest out old new r c k d;
+      front = λ table s old new over last r c. written-front (c .went .text) old new (r .written) (c .went .wrote) (c .went .room);
+      moves = λ table s old new over last r c k z.
+          let w = call-moves (loaded-rules table) c k z in
+          (no-separator s (w .unended), w .short, w .more);
     }
 
 -- ---- a text in a lent buffer
 
 pub packing : Packing
-packing = record { number = number-back; size = size-back }
+packing =
+    record {
+      number = number-back;
+      size = size-back;
+      count-number = count-number;
+      count = count-back;
+      packed-number = λ o h. count-number (o .number) (o .line) (o .size) h;
+      packed-count = λ o h. count-back (o .number) (o .line) (o .size) h;
+    }
+
+-- ---- the shared tail
+
+ends-there : (a b : List ℕ) → tailPlace a b .start + tailPlace a b .size ≡ length a
+ends-there a b = let r = tail-suffix a b in omega (arith, ap length (r .1), length-append (r .0) (sharedTail a b))
+
+pub shared-tails : SharedTails
+unfolding sharedTail
+shared-tails =
+    record {
+      place = tail-place;
+      suffix = λ a b. (ends-there a b, tail-drop a b);
+      parts = λ a b. (refl, tail-second a b);
+      longest = tail-longest;
+    }
 
 -- ---- dates
 
@@ -457,6 +542,7 @@ mailboxes =
       meaning = written-meaning;
       address = address-reading;
       same = address-same;
+      same-only = address-needless;
       again = λ s b h k. (written-again s b h k, unnamed-text b);
       place-start = λ s. omega (arith, place-inside s .1);
       place-size = λ s. omega (arith, place-inside s .1);
@@ -465,14 +551,29 @@ mailboxes =
 
 -- ---- all of it
 
+pub limits : Limits
+limits =
+    record {
+      address = refl;
+      coded-form = refl;
+      line = (refl, refl);
+      table = (refl, refl, refl, refl);
+      attributes = refl;
+      counts = (refl, refl, refl);
+      answer = refl;
+      packing = (refl, refl, refl);
+    }
+
 pub promises : Promises
 promises =
     record {
+      limits = limits;
       demand1 = demand1;
       demand2 = demand2;
       demand3 = demand3;
       router = router;
       packing = packing;
+      shared-tails = shared-tails;
       dates = dates;
       restricted = restricted;
       mailboxes = mailboxes;

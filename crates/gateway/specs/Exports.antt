@@ -4,7 +4,7 @@ use mathlib.Core.Path.{_≡_}
 use mathlib.Core.Logic.{_⊎_}
 use mathlib.Core.Bool.{cond}
 use mathlib.Core.List.{List}
-use Prim.Native.Nat.{ℕ, _+_, _*_}
+use Prim.Native.Nat.{ℕ}
 use lib.Dec.{eqb}
 use lib.ListN.{length}
 use Rattle.oraddr.specs.View.{emptyRecord, view}
@@ -19,7 +19,7 @@ use Rattle.mapping.specs.ToAddress.{toAddress}
 use Rattle.mapping.specs.ToRecord.{addressToRecord}
 use Rattle.soundness.specs.Sound.{Sound, Witness}
 use Rattle.gateway_pack.specs.Filled.{filled}
-use Rattle.gateway_pack.specs.Packed.{numberLimit, packedCount}
+use Rattle.gateway_pack.specs.Packed.{packedCount}
 
 -- the number, and 16 times the length that was written, or with 7 the line
 abbrev pub packed : AddressResult → ℕ
@@ -64,19 +64,19 @@ textToAddress table s old = textToAddressBy (loadedFrom table) s old
 -- 0: every canonical record that is no carrier comes back
 pub record TellsSound (t : Table) (old : List ℕ) (r : ℕ) (new : List ℕ) : Type 0 where
   pub sound : Sound t
-  pub value : r ≡ 0
+  pub value : r ≡ packedCount 0 0 0
   pub buffer : new ≡ old
 
 -- 8: a witness, with its text's length, and its text if that fits
 pub record TellsWitness (t : Table) (old : List ℕ) (r : ℕ) (new : List ℕ) : Type 0 where
   pub shown : Record
   pub witness : Witness t shown
-  pub value : r ≡ 8 + numberLimit * length (recordText keys (view shown))
+  pub value : r ≡ packedCount 8 0 (length (recordText keys (view shown)))
   pub buffer : new ≡ filled (recordText keys (view shown)) old
 
 -- 7: the first bad line
 pub record TellsMalformed (n : ℕ) (old : List ℕ) (r : ℕ) (new : List ℕ) : Type 0 where
-  pub value : r ≡ 7 + numberLimit * n
+  pub value : r ≡ packedCount 7 n 0
   pub buffer : new ≡ old
 
 abbrev pub ExportedCheck : TableOutcome → List ℕ → ℕ → List ℕ → Type 0

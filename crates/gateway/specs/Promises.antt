@@ -5,29 +5,40 @@
 -- Assumes nothing.
 use mathlib.Core.Path.{_≡_}
 use mathlib.Core.Logic.{_⊎_}
-use mathlib.Core.Bool.{Bool, true, false}
+use mathlib.Core.Bool.{Bool, true, false, cond}
 use mathlib.Core.List.{List, [], _∷_, _++_}
 use mathlib.Core.Option.{none, some}
 use Prim.Native.Nat.{ℕ, _+_, _/_, _%_, _≤_, _<_}
-use lib.Dec.{ltb}
-use lib.ListN.{length, take, drop, replicate}
+use lib.Dec.{eqb, ltb}
+use lib.ListN.{length, take, drop, replicate, set}
 use Rattle.chars.specs.Lists.{all, bytes, member}
-use Rattle.chars.specs.Parts.{isAtoms}
+use Rattle.chars.specs.Case.{agree, sameText}
+use Rattle.chars.specs.Parts.{at, isAtoms}
 use Rattle.chars.specs.Write.{TextResult, front, placedText, refusedText}
+use Rattle.oraddr.specs.Add.{Outcome, addDd, addSingle, addUnit}
+use Rattle.oraddr.specs.Bounds.{bounds, levelCount, most, singleCount}
 use Rattle.oraddr.specs.Canonical.{canonicalRecord}
+use Rattle.oraddr.specs.Same.{sameRecord}
 use Rattle.oraddr.specs.View.{emptyRecord, view}
 use Rattle.oraddr.specs.declared.record.Record.{Record}
-use Rattle.ortext_read.specs.Apply.{read}
+use Rattle.ortext_name.specs.Name.{Name, isShort, nameText, readName}
+use Rattle.ortext_segments.specs.Keys.{keys}
+use Rattle.ortext_segments.specs.Segments.{Segment, readSegments}
+use Rattle.ortext_read.specs.Apply.{named, read}
+use Rattle.ortext_write.specs.Write.{recordText, remaining, spelledAttributes}
 use Rattle.mailaddr.specs.Code.{coded}
+use Rattle.mailaddr.specs.Domain.{domainOf, partsOf}
 use Rattle.mailaddr.specs.Shape.{Address, longestAddress, shapeOf, unquotedLocal}
-use Rattle.table.specs.Lines.{loadedFrom, malformed, wellFormed}
+use Rattle.mailaddr.specs.Tail.{shared, sharedTail, tailPlace}
+use Rattle.table.specs.Lines.{loadedFrom, longestGatewayDomain, longestRowDomain, longestTable, malformed, mostRows, wellFormed}
 use Rattle.table.specs.Table.{Table}
-use Rattle.mapping.specs.Carried.{carriedWhole, carrierOf, longestCoded, resultOf}
+use Rattle.mapping.specs.Carried.{carriedWhole, carrierOf, carrierType, longestCoded, resultOf}
 use Rattle.mapping.specs.Results.{AddressResult, malformedAddress, malformedRecord, mapped, refusedAddress, refusedRecord}
-use Rattle.mapping.specs.ToAddress.{addressOf, recordToAddress}
+use Rattle.mapping.specs.ToAddress.{addressOf, isCarrier, recordToAddress, toAddress}
 use Rattle.mapping.specs.ToRecord.{addressToRecord, recordIn}
+use Rattle.mapping.specs.Whole.{Whole, WholeText}
 use Rattle.soundness.specs.Check.{CheckResult, Demand3}
-use Rattle.soundness.specs.Sound.{Sound, Witness}
+use Rattle.soundness.specs.Sound.{HasRoom, IsStruct, Sound, Witness, textOf}
 use Rattle.dates.specs.Convert.{dateToUtc, utcToDate}
 use Rattle.date_read.specs.Date.{isDate}
 use Rattle.date_read.specs.Read.{readDate, readUtc}
@@ -41,18 +52,30 @@ use Rattle.lexical.specs.Nesting.{nestsTooDeep}
 use Rattle.lexical.specs.Tokens.{longestLine}
 use Rattle.mailbox.specs.Mailbox.{Bare, bareIn, bareText, emptyStart, localText, phrasePlace, read as readAs, readMailbox, reading}
 use Rattle.mailbox.specs.Needless.{noNeedless}
-use Rattle.router_line.specs.Line.{answerRoom}
-use Rattle.router.specs.Run.{Calls, Routing, Waits, whole}
+use Rattle.router_line.specs.Line.{answerRoom, longestLine as longestRouted}
+use Rattle.router.specs.Run.{Calls, Routing, whole}
 use Rattle.router.specs.declared.run.Routed.{Routed}
-use Rattle.gateway_pack.specs.Packed.{lengthLimit, numberLimit, packedPlace, packedText, placeLimit}
+use Rattle.gateway_pack.specs.Packed.{lengthLimit, numberLimit, packedCount, packedPlace, packedText, placeLimit}
 use Rattle.gateway_text.specs.Texts.{recordOfText, textOfRecord}
-use Rattle.gateway.specs.Exports.{addressToText, textToAddress}
+use Rattle.gateway.specs.Exports.{addressToText, packed, textToAddress}
 
--- ---- demand 1: "a result or a numbered refusal; a refusal returns an empty record or length 0 and leaves the lent buffer as it was"
+-- What every record struct has: as many values, units and DDs as its type says. (The definitions are over lists, which could have any length.)
+-- `is_struct` of `src/lib.rt` takes any record and promises this of it, so that no promise about records leaves one out.
+pub record Struct (r : Record) : Type 0 where
+  pub values : IsStruct r
+  pub units : length (r .units .names) ≡ most
+  pub dds : length (r .dds .items) ≡ most
+
+-- ---- demand 1: each call ends with a result or a numbered refusal; a refusal returns an empty record or length 0 and leaves the lent buffer as it
+-- was. No attribute is ever shortened.
 
 -- a record with 0, or one of these numbers and an empty record
 abbrev pub EndsRecord : List ℕ → ℕ → Record → Type 0
 EndsRecord numbers n r = (n ≡ 0) ⊎ ((member n numbers ≡ true) × (r ≡ emptyRecord))
+
+-- an addition: 0, or 4 and "the record as it was"
+abbrev pub EndsAddition : Record → Outcome → Type 0
+EndsAddition r o = (o .number ≡ 0) ⊎ ((o .number ≡ 4) × (o .record' ≡ r))
 
 -- 0 with a text at the front of the buffer and the rest as before; or one of these numbers, length 0 and the buffer as it was
 pub record Written (old : List ℕ) (o : TextResult) : Type 0 where
@@ -73,6 +96,26 @@ EndsBuffer numbers old o = Written old o ⊎ Left numbers old o
 abbrev pub withoutLine : AddressResult → TextResult
 withoutLine o = record { number = o .number; size = o .size; buffer = o .buffer }
 
+-- Each value entire: what is added; what is read of an address, of one carried whole, and of a record text; and what is written, which reads back
+-- byte for byte, save that the DD type RFC-822 comes back in capitals.
+pub record Unshortened : Type 0 where
+  pub added : (r : Record) (k : ℕ) (v : List ℕ) → addSingle r k v .number ≡ 0
+      → view (addSingle r k v .record') ≡ record { single = set (view r .single) k v; units = view r .units; dds = view r .dds }
+  pub added-unit : (r : Record) (v : List ℕ) → Struct r → addUnit r v .number ≡ 0
+      → view (addUnit r v .record') ≡ record { single = view r .single; units = view r .units ++ (v ∷ []); dds = view r .dds }
+  pub added-dd : (r : Record) (t v : List ℕ) → Struct r → addDd r t v .number ≡ 0
+      → view (addDd r t v .record') ≡ record { single = view r .single; units = view r .units; dds = view r .dds ++ (record { kind = t; value = v } ∷ []) }
+  pub address-read : (table s : List ℕ) (t : Table) (a : Address) → loadedFrom table ≡ wellFormed t → length s ≤ longestAddress → shapeOf s ≡ some a
+      → carriedWhole t a ≡ false → Whole t a (addressToRecord table s .record')
+  pub address-carried : (table s : List ℕ) (t : Table) (a : Address) → loadedFrom table ≡ wellFormed t → length s ≤ longestAddress → shapeOf s ≡ some a
+      → carriedWhole t a ≡ true → addressToRecord table s .number ≡ 0
+      → view (addressToRecord table s .record') .dds ≡ record { kind = carrierType; value = coded s } ∷ []
+  pub text-read : (s : List ℕ) → recordOfText s .number ≡ 0 → WholeText s (recordOfText s .record')
+  -- of the record text of what is left of a record behind any number of its levels; and of the short form of a name
+  pub text-written : (r : Record) (n : ℕ) → Struct r → canonicalRecord r ≡ true → let b = remaining n (view r) in
+      (gs : List Segment) × (readSegments keys (recordText keys b) ≡ some gs) × (named gs ≡ some (spelledAttributes keys b))
+  pub name-written : (m : Name) (gq : List ℕ) → isShort m gq ≡ true → readName (nameText m) ≡ some m
+
 pub record Demand1 : Type 0 where
   pub to-record : (table s : List ℕ) → EndsRecord (1 ∷ 2 ∷ 3 ∷ 7 ∷ []) (addressToRecord table s .number) (addressToRecord table s .record')
   pub to-address : (table : List ℕ) (r : Record) (old : List ℕ) → EndsBuffer (4 ∷ 5 ∷ 6 ∷ 7 ∷ []) old (withoutLine (recordToAddress table r old))
@@ -80,8 +123,12 @@ pub record Demand1 : Type 0 where
   pub write-record : (r : Record) (old : List ℕ) → EndsBuffer (4 ∷ 6 ∷ []) old (withoutLine (textOfRecord r old))
   pub address-text : (table s old : List ℕ) → EndsBuffer (1 ∷ 2 ∷ 3 ∷ 6 ∷ 7 ∷ []) old (withoutLine (addressToText table s old))
   pub text-address : (table s old : List ℕ) → EndsBuffer (4 ∷ 5 ∷ 6 ∷ 7 ∷ []) old (withoutLine (textToAddress table s old))
+  pub add : (r : Record) (k : ℕ) (v : List ℕ) → EndsAddition r (addSingle r k v)
+  pub add-unit : (r : Record) (v : List ℕ) → EndsAddition r (addUnit r v)
+  pub add-dd : (r : Record) (t v : List ℕ) → EndsAddition r (addDd r t v)
+  pub unshortened : Unshortened
 
--- ---- demand 2: "exactly document 01's, both ways, each refusal exactly when its rule says. An address carried whole comes back to the byte."
+-- ---- demand 2: the mapping is document 01's, both ways, each refusal exactly when its rule says. An address carried whole comes back to the byte.
 
 -- "Order, address to record: 7, 2, 1, 3": one line a case, and no two can hold at once
 pub record RecordRules (table s : List ℕ) : Type 0 where
@@ -113,8 +160,8 @@ pub record Demand2 : Type 0 where
       → carriedWhole t a ≡ true → addressToRecord table s .number ≡ 0 → length s ≤ length old
       → recordToAddress table (addressToRecord table s .record') old ≡ record { number = 0; line = 0; size = length s; buffer = front s old }
 
--- ---- demand 3: "accepts a table exactly when it is well-formed and every canonical record that is no carrier comes back under it; when it
--- refuses a well-formed table it shows a record that does not"
+-- ---- demand 3: the check accepts a table exactly when it is well-formed and every canonical record that is no carrier comes back under it; when it
+-- refuses a well-formed table it shows a record that does not.
 
 -- the table text is well-formed, and the table that it spells is sound
 pub record Accepted (table : List ℕ) : Type 0 where
@@ -128,25 +175,52 @@ pub record Shown (table : List ℕ) (r : Record) : Type 0 where
   pub formed : loadedFrom table ≡ wellFormed spelled
   pub witness : Witness spelled r
 
+-- A record comes back, by the results of the two mappings under the table text. A buffer "has room" exactly when record to address does not answer 6
+-- (`Room`), so nothing is asked of it here but that.
+pub record Returns (table : List ℕ) (r : Record) (old : List ℕ) : Type 0 where
+  pub written : recordToAddress table r old .number ≡ 0
+  pub read : let s = take (recordToAddress table r old .size) (recordToAddress table r old .buffer) in
+      (addressToRecord table s .number ≡ 0) × (sameRecord (addressToRecord table s .record') r ≡ true)
+
+-- "A buffer has room when it is no shorter than the text that "Record to address" gives": exactly when the answer is not 6
+pub record Room (t : Table) (r : Record) (old : List ℕ) : Type 0 where
+  pub not-six : HasRoom (textOf t r) old → toAddress t r old .number ≡ 6 → ⊥
+  pub has-room : (toAddress t r old .number ≡ 6 → ⊥) → HasRoom (textOf t r) old
+
 -- for any answer that the check's contract allows
 pub record Judgement (table : List ℕ) (o : CheckResult) : Type 0 where
   pub accepts : o .number ≡ 0 → Accepted table
+  -- what that comes to, said of the two mappings
+  pub returns : (t : Table) (r : Record) (old : List ℕ) → o .number ≡ 0 → loadedFrom table ≡ wellFormed t → Struct r → canonicalRecord r ≡ true
+      → isCarrier t (view r) ≡ false → (recordToAddress table r old .number ≡ 6 → ⊥) → Returns table r old
   pub accepted : Accepted table → o .number ≡ 0
   pub shows : o .number ≡ 8 → Shown table (o .record')
   pub malformed-line : o .number ≡ 7 → loadedFrom table ≡ malformed (o .line)
   pub none-else : member (o .number) (0 ∷ 7 ∷ 8 ∷ []) ≡ true
+  -- "the record (from the check, an empty one)"; with 7 an "empty record", and the line is told with 7 alone
+  pub empty : (o .number ≡ 8 → ⊥) → o .record' ≡ emptyRecord
+  pub no-line : (o .number ≡ 7 → ⊥) → o .line ≡ 0
 
-abbrev pub Demand3Exactly : Type 0
-Demand3Exactly = (table : List ℕ) (o : CheckResult) → Demand3 (loadedFrom table) o → Judgement table o
+pub record Demand3Exactly : Type 0 where
+  pub judges : (table : List ℕ) (o : CheckResult) → Demand3 (loadedFrom table) o → Judgement table o
+  pub room : (t : Table) (r : Record) (old : List ℕ) → Room t r old
 
--- ---- the router: "however the input is cut into chunks as it arrives, and however small the room for output (from that of one answer up), the
--- whole output is that of the whole input"
+-- ---- the router: however the input is cut into chunks as it arrives, and however small the room for output (from that of one answer up), the
+-- whole output is that of the whole input
 
 pub record Router : Type 0 where
   pub output : (table input out : List ℕ) → Calls (loadedFrom table) false [] input out → out ≡ whole (loadedFrom table) input
-  -- a call with room for one answer that takes nothing has nothing to answer
+  -- any calls are such a run, each on what was handed back and what arrives; it has ended when nothing is left
+  pub ended : (table : List ℕ) (over : Bool) → Calls (loadedFrom table) over [] [] []
+  pub called : (table kept chunk rest out old new : List ℕ) (over last : Bool) (r : Routed) (c : Routing (loadedFrom table) over (kept ++ chunk) last old r new)
+      → (last ≡ true → rest ≡ []) → Calls (loadedFrom table) (r .over) (drop (r .taken) (kept ++ chunk)) rest out
+      → Calls (loadedFrom table) over kept (chunk ++ rest) (c .went .text ++ out)
+  -- what a call wrote stands at the front of the buffer, and the rest is as before
+  pub front : (table s old new : List ℕ) (over last : Bool) (r : Routed) (c : Routing (loadedFrom table) over s last old r new)
+      → (take (r .written) new ≡ c .went .text) × (drop (r .written) new ≡ drop (r .written) old)
+  -- a call with room for one answer that takes nothing has nothing to answer: no LF, not too much for a line, and more to come or nothing left
   pub moves : (table s old new : List ℕ) (over last : Bool) (r : Routed) → Routing (loadedFrom table) over s last old r new
-      → answerRoom ≤ length old → r .taken ≡ 0 → Waits last s
+      → answerRoom ≤ length old → r .taken ≡ 0 → (member 10 s ≡ false) × (length s ≤ longestRouted) × (last ≡ true → s ≡ [])
 
 -- ---- a text in a lent buffer, of the requests that came after: it ends as in demand 1
 
@@ -154,6 +228,24 @@ pub record Router : Type 0 where
 pub record Packing : Type 0 where
   pub number : (o : TextResult) → o .number < numberLimit → packedText o % numberLimit ≡ o .number
   pub size : (o : TextResult) → o .number < numberLimit → o .size < lengthLimit → packedText o / numberLimit ≡ o .size
+  -- the same of the mappings and the check, which return the line with 7
+  pub count-number : (n line size : ℕ) → n < numberLimit → packedCount n line size % numberLimit ≡ n
+  pub count : (n line size : ℕ) → n < numberLimit → packedCount n line size / numberLimit ≡ cond (eqb n 7) line size
+  pub packed-number : (o : AddressResult) → o .number < numberLimit → packed o % numberLimit ≡ o .number
+  pub packed-count : (o : AddressResult) → o .number < numberLimit → packed o / numberLimit ≡ cond (eqb (o .number) 7) (o .line) (o .size)
+
+-- ---- the shared tail: "the tail they share by whole parts, case aside, is shown inside the first"; "with nothing shared, the empty end of the
+-- first is shown"
+
+pub record SharedTails : Type 0 where
+  pub place : (a b : List ℕ) → at a (tailPlace a b) ≡ sharedTail a b
+  -- it ends where the first does
+  pub suffix : (a b : List ℕ) → (tailPlace a b .start + tailPlace a b .size ≡ length a) × (drop (tailPlace a b .start) a ≡ sharedTail a b)
+  -- its parts are the first's, and the second's case aside; and of no more parts is this so
+  pub parts : (a b : List ℕ) → let k = shared (partsOf a) (partsOf b) in
+      (sharedTail a b ≡ domainOf (take k (partsOf a))) × (agree sameText (take k (partsOf a)) (take k (partsOf b)) ≡ true)
+  pub longest : (a b : List ℕ) (j : ℕ) → j ≤ length (partsOf a) → j ≤ length (partsOf b) → agree sameText (take j (partsOf a)) (take j (partsOf b)) ≡ true
+      → j ≤ shared (partsOf a) (partsOf b)
 
 -- ---- dates: "Going out to either form and back gives the same date, time and offset. Refusals: 10 .. then 6"
 
@@ -209,6 +301,9 @@ pub record Mailboxes : Type 0 where
       → reading s ≡ readAs (addressOnly (unquotedLocal a) (a .isQuoted) (a .domain))
   pub same : (s : List ℕ) (a : Address) → shapeOf s ≡ some a → noNeedless s ≡ true
       → bareText (addressOnly (unquotedLocal a) (a .isQuoted) (a .domain)) ≡ s
+  -- and there alone
+  pub same-only : (s : List ℕ) (a : Address) → shapeOf s ≡ some a → bareText (addressOnly (unquotedLocal a) (a .isQuoted) (a .domain)) ≡ s
+      → noNeedless s ≡ true
   -- what was written reads as itself
   pub again : (s : List ℕ) (b : Bare) → bareIn s ≡ some b → length s ≤ longestLine
       → (reading (bareText b) ≡ readAs (addressOnly (b .local) (b .isQuoted) (b .domain))) × (bareText (addressOnly (b .local) (b .isQuoted) (b .domain)) ≡ bareText b)
@@ -218,14 +313,28 @@ pub record Mailboxes : Type 0 where
   -- nesting is counted exactly
   pub nested : (n : ℕ) → nestsTooDeep (replicate n 40 ++ (replicate n 41 ++ bytes "a@b")) ≡ ltb 8 n
 
+-- ---- the limits, by number: a greater one where a promise asks for it (`answerRoom`, `lengthLimit`) would promise less
+
+pub record Limits : Type 0 where
+  pub address : longestAddress ≡ 2048
+  pub coded-form : longestCoded ≡ 128
+  pub line : (longestLine ≡ 4096) × (longestRouted ≡ 4096)
+  pub table : (longestTable ≡ 65536) × (mostRows ≡ 512) × (longestGatewayDomain ≡ 253) × (longestRowDomain ≡ 40)
+  pub attributes : bounds ≡ 3 ∷ 16 ∷ 16 ∷ 64 ∷ 40 ∷ 16 ∷ 5 ∷ 3 ∷ 32 ∷ 8 ∷ 128 ∷ 2 ∷ []
+  pub counts : (singleCount ≡ 8) × (levelCount ≡ 8) × (most ≡ 4)
+  pub answer : answerRoom ≡ 2563
+  pub packing : (numberLimit ≡ 16) × (lengthLimit ≡ 1152921504606846976) × (placeLimit ≡ 65536)
+
 -- ---- all of it
 
 pub record Promises : Type 0 where
+  pub limits : Limits
   pub demand1 : Demand1
   pub demand2 : Demand2
   pub demand3 : Demand3Exactly
   pub router : Router
   pub packing : Packing
+  pub shared-tails : SharedTails
   pub dates : Dates
   pub restricted : Restricted
   pub mailboxes : Mailboxes

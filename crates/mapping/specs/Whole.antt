@@ -62,3 +62,11 @@ pub record Whole (t : Table) (a : Address) (q : Record) : Type 0 where
   pub settled : SettledBy t (a .domain) count under
   pub named : NamedBy (unquotedLocal a) names
   pub shows : view q ≡ completed (merged (view under) names)
+
+-- A record is, value by value, what a record text names: the values of its segments, entire, and the pieces of the one that is PN.
+pub record WholeText (s : List ℕ) (q : Record) : Type 0 where
+  pub segments : List Segment
+  pub names : Attributes
+  pub reads : readSegments keys s ≡ some segments
+  pub named : named segments ≡ some names
+  pub shows : view q ≡ completed (merged (view emptyRecord) names)

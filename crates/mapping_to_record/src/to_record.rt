@@ -26,7 +26,7 @@ use table_settle::settle::settle;
 ghost use mathlib.Core.Path.{_≡_};
 ghost use Prim.Native.Nat.{_<_, _≤_};
 ghost use lib.ListN.{length};
-ghost use Rattle.ortext_read.specs.Answers.{reading};
+ghost use Rattle.ortext_read.specs.Answers.{reading, readingResult, toldReading};
 ghost use Rattle.ortext_read.specs.Apply.{unread};
 ghost use Rattle.mailaddr.specs.Answers.{addressAt, localAt};
 ghost use Rattle.mailaddr.specs.Shape.{longestAddress};
@@ -55,7 +55,7 @@ fn settle_under(text: &[u8], to_path: &[usize], table: Loaded, domain: &[u8]) ->
 }
 
 fn unread() -> Reading
-    ensures { λ r. ⌜ reading r ≡ unread ⌝ }
+    ensures { λ r. ⌜ toldReading r ≡ readingResult unread ⌝ }
 {
     Reading {
         answer: Answer::Unread,
@@ -65,7 +65,7 @@ fn unread() -> Reading
 
 // Reads a local part over settled levels, if it can be read at all.
 fn read_over(rec: Record, n: usize, s: &[u8]) -> Reading
-    ensures { λ r. ⌜ reading r ≡ readSettled n rec (now (s .entry)) ⌝ }
+    ensures { λ r. ⌜ toldReading r ≡ readingResult (readSettled n rec (now (s .entry))) ⌝ }
 {
     if !is_readable(s) {
         return unread();
@@ -77,7 +77,7 @@ fn read_over(rec: Record, n: usize, s: &[u8]) -> Reading
 fn read_under(rec: Record, n: usize, s: &[u8], parted: Parted) -> Reading
     requires { ⌜ length (now s) ≤ longestAddress ⌝ }
     requires { ⌜ parted .at ≤ length (now s) ⌝ }
-    ensures { λ r. ⌜ reading r ≡ readSettled n rec (localAt (now (s .entry)) parted) ⌝ }
+    ensures { λ r. ⌜ toldReading r ≡ readingResult (readSettled n rec (localAt (now (s .entry)) parted)) ⌝ }
 {
     let mut local = [0u8; LONGEST_ADDRESS];
     let m = unquote_local(&mut local, s, parted);
@@ -90,7 +90,7 @@ fn read_parted(text: &[u8], to_path: &[usize], table: Loaded, s: &[u8], parted: 
     requires { ⌜ Inside (now text) (now «to_path») (table .«to_path») ⌝ }
     requires { ⌜ length (now s) ≤ longestAddress ⌝ }
     requires { ⌜ parted .at < length (now s) ⌝ }
-    ensures { λ r. ⌜ reading r ≡ readWell (inward (now (text .entry)) (now («to_path» .entry)) table) (addressAt (now (s .entry)) parted) ⌝ }
+    ensures { λ r. ⌜ toldReading r ≡ readingResult (readWell (inward (now (text .entry)) (now («to_path» .entry)) table) (addressAt (now (s .entry)) parted)) ⌝ }
 {
     let from = parted.at + 1;
     let domain = &s[from..];

@@ -15,12 +15,13 @@ ghost use mathlib.Core.Path.{_≡_};
 ghost use Rattle.ortext_segments.specs.Keys.{keys};
 ghost use Rattle.ortext_read.specs.Apply.{complete, finish, readAsName, readLocal, readText};
 ghost use Rattle.ortext_name.specs.Name.{readName};
-ghost use Rattle.ortext_read.specs.Answers.{reading, readHeld};
+ghost use Rattle.ortext_read.specs.Answers.{readHeld, readingResult, toldReading};
 ghost use Rattle.ortext_named.specs.Named.{AllSound};
 ghost use Rattle.oraddr.specs.Add.{told};
+ghost use Rattle.oraddr.specs.View.{emptyRecord};
 
-// What reading came to: a record; that the text does not read; that it names what no record may have, document 01's number
-// 4; or that it names a settled level again.
+// What reading came to: a record; or that the text does not read, names what no record may have, or names a settled level again, which are
+// all document 01's number 4.
 pub enum Answer {
     Done,
     Unread,
@@ -49,7 +50,7 @@ fn completed(rec: Record) -> Record
 }
 
 fn without_record(answer: Answer) -> Reading
-    ensures { λ r. ⌜ r .answer ≡ answer ⌝ }
+    ensures { λ r. ⌜ r ≡ record { answer = answer; «record» = emptyRecord } ⌝ }
 {
     Reading {
         answer,
@@ -59,7 +60,7 @@ fn without_record(answer: Answer) -> Reading
 
 // The end of a reading: the record after all additions, completed, or the refusal.
 fn finished(done: Addition) -> Reading
-    ensures { λ r. ⌜ reading r ≡ finish (told done) ⌝ }
+    ensures { λ r. ⌜ toldReading r ≡ readingResult (finish (told done)) ⌝ }
 {
     let answer = done.answer;
     match answer {
@@ -74,7 +75,7 @@ fn finished(done: Addition) -> Reading
 // What the segments of a text name, once they are all read.
 fn applied(rec: Record, s: &[u8], named: Named) -> Reading
     requires { ⌜ AllSound (now s) named ⌝ }
-    ensures { λ r. ⌜ reading r ≡ readHeld (now (s .entry)) named rec ⌝ }
+    ensures { λ r. ⌜ toldReading r ≡ readingResult (readHeld (now (s .entry)) named rec) ⌝ }
 {
     if named.again {
         return without_record(Answer::Again);
@@ -90,7 +91,7 @@ fn applied(rec: Record, s: &[u8], named: Named) -> Reading
 
 // Reads `s` as record text over a record with the first n levels settled.
 pub fn read_text(rec: Record, n: usize, s: &[u8]) -> Reading
-    ensures { λ r. ⌜ reading r ≡ readText keys n rec (now (s .entry)) ⌝ }
+    ensures { λ r. ⌜ toldReading r ≡ readingResult (readText keys n rec (now (s .entry))) ⌝ }
 {
     if s.len() < 2 {
         return without_record(Answer::Unread);
@@ -116,7 +117,7 @@ pub fn read_text(rec: Record, n: usize, s: &[u8]) -> Reading
 
 // Reads `s` as a personal name.
 fn as_name(rec: Record, s: &[u8]) -> Reading
-    ensures { λ r. ⌜ reading r ≡ readAsName rec (readName (now (s .entry))) ⌝ }
+    ensures { λ r. ⌜ toldReading r ≡ readingResult (readAsName rec (readName (now (s .entry)))) ⌝ }
 {
     match read_name(s) {
         NameRead::Name(places) => finished(add_name(rec, s, places)),
@@ -126,7 +127,7 @@ fn as_name(rec: Record, s: &[u8]) -> Reading
 
 // Reads `s`, an unquoted local part, as record text or else as a personal name.
 pub fn read_local(rec: Record, n: usize, s: &[u8]) -> Reading
-    ensures { λ r. ⌜ reading r ≡ readLocal keys n rec (now (s .entry)) ⌝ }
+    ensures { λ r. ⌜ toldReading r ≡ readingResult (readLocal keys n rec (now (s .entry))) ⌝ }
 {
     let first = read_text(rec, n, s);
     let answer = first.answer;

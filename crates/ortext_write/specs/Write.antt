@@ -112,3 +112,14 @@ localText ks a = cond (writesShort a) (nameText (nameIn a)) (recordText ks a)
 -- The longest record text that a canonical record can have: the greatest bounds, each value quoted throughout.
 abbrev pub longestText : ℕ
 longestText = 1735
+
+-- ---- what comes back of it
+
+-- a DD type that a short key stands for comes back as the key spells it: RFC-822 in capitals
+unfoldable pub spelledDd : Keys → Dd → Dd
+unfolding hasShort shortKey
+spelledDd ks d = cond (hasShort ks (d .kind)) (record { kind = shortKey ks (d .kind); value = d .value }) d
+
+unfoldable pub spelledAttributes : Keys → Attributes → Attributes
+unfolding spelledDd
+spelledAttributes ks a = record { single = a .single; units = a .units; dds = map (spelledDd ks) (a .dds) }

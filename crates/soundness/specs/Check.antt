@@ -97,7 +97,7 @@ pub record IsMalformed (n : ℕ) (o : CheckResult) : Type 0 where
   pub line : o .line ≡ n
   pub empty : o .record' ≡ emptyRecord
 
--- 0, "done": an empty record, and "every canonical record that is no carrier comes back under it"
+-- 0, "done": an empty record, and every canonical record that is no carrier comes back
 pub record IsAccepted (t : Table) (o : CheckResult) : Type 0 where
   pub number : o .number ≡ 0
   pub line : o .line ≡ 0

@@ -164,18 +164,21 @@ witness-canonical (wellFormed t) o (inl a) h = absurd (omega (arith, a .number))
 witness-canonical (wellFormed t) o (inr r) h = r .witness .canonical
 
 pub tells-sound : (l : TableOutcome) (o : CheckResult) (old : List ℕ) → Demand3 l o → o .number ≡ 0 → ExportedCheck l old 0 old
+unfolding packedCount
 tells-sound (malformed n) o old d h = absurd (omega (arith, d .number))
 tells-sound (wellFormed t) o old (inl a) h = inl (record { sound = a .sound; value = refl; buffer = refl })
 tells-sound (wellFormed t) o old (inr r) h = absurd (omega (arith, r .number))
 
 pub tells-witness : (l : TableOutcome) (o : CheckResult) (old new : List ℕ) (n : ℕ) → Demand3 l o → o .number ≡ 8 → ShownText (recordText keys (view (o .record'))) old n new
     → ExportedCheck l old (8 + numberLimit * n) new
+unfolding packedCount
 tells-witness (malformed m) o old new n d h k = absurd (omega (arith, d .number))
 tells-witness (wellFormed t) o old new n (inl a) h k = absurd (omega (arith, a .number))
 tells-witness (wellFormed t) o old new n (inr r) h k =
     inr (record { shown = o .record'; witness = r .witness; value = ap (λ (m : ℕ). 8 + numberLimit * m) (k .size); buffer = k .buffer })
 
 pub tells-malformed : (l : TableOutcome) (o : CheckResult) (old : List ℕ) → Demand3 l o → o .number ≡ 7 → ExportedCheck l old (7 + numberLimit * o .line) old
+unfolding packedCount
 tells-malformed (malformed n) o old d h = record { value = ap (λ (m : ℕ). 7 + numberLimit * m) (d .line); buffer = refl }
 tells-malformed (wellFormed t) o old (inl a) h = absurd (omega (arith, a .number))
 tells-malformed (wellFormed t) o old (inr r) h = absurd (omega (arith, r .number))

@@ -7,7 +7,8 @@ use Prim.Native.Nat.{ℕ}
 use Rattle.oraddr.specs.Canonical.{canonicalRecord}
 use Rattle.oraddr.specs.View.{emptyRecord}
 use Rattle.oraddr.specs.declared.record.Record.{Record}
-use Rattle.ortext_read.specs.Answers.{reading}
+use Rattle.ortext_read.specs.Answers.{reading, readingResult, toldReading}
+use Rattle.ortext_read.proofs.Laws.Answers.{reads-as}
 use Rattle.ortext_read.specs.Apply as apply
 use Rattle.ortext_read.specs.Apply.{read, readText}
 use Rattle.ortext_segments.specs.Keys.{keys}
@@ -23,7 +24,7 @@ unfolding readOutcome
 outcome-done r h = rw h
 
 -- what reading a text came to
-pub read-outcome : (e : Record) (s : List ℕ) (x : Reading) (y : apply.Reading) → e ≡ emptyRecord → reading x ≡ readText keys 0 e s → reading x ≡ y
-    → readOutcome y ≡ recordOfText s
+pub read-outcome : (e : Record) (s : List ℕ) (x : Reading) (y : apply.Reading) → e ≡ emptyRecord
+    → toldReading x ≡ readingResult (readText keys 0 e s) → reading x ≡ y → readOutcome y ≡ recordOfText s
 unfolding recordOfText
-read-outcome e s x y z k h = ap readOutcome (sym h ∙ k ∙ ap (λ (r : Record). readText keys 0 r s) z)
+read-outcome e s x y z k h = ap readOutcome (sym h ∙ reads-as x (readText keys 0 e s) k ∙ ap (λ (r : Record). readText keys 0 r s) z)

@@ -1,18 +1,23 @@
 -- A bare address of the accepted shape, in which no backslash is needless, is written as it was read.
 -- Assumes nothing.
 use mathlib.Core.Path.{_≡_, refl, sym, ap, _∙_}
-use mathlib.Core.Bool.{Bool, true, false, _||_}
-use mathlib.Core.List.{List, [], _∷_, _++_}
+use mathlib.Core.Bool.{Bool, true, false, _||_, not}
+use mathlib.Core.List.{List, [], _∷_, _++_, append-assoc, append-nil}
 use mathlib.Core.Option.{some}
 use Prim.Native.Nat.{ℕ, suc}
 use native.Mathlib.Omega.{arith}
 use lib.Dec.{eqb}
 use lib.ListN.{length, take}
 use lib.Seq.{take-append-seam}
-use Rattle.chars.proofs.Laws.Lists.{and-left, and-right}
+use borrow.Author.Tests.{eqb-true, not-true}
+use Rattle.chars.specs.Class.{between, isAtomChar}
+use Rattle.chars.specs.Lists.{all, member}
+use Rattle.chars.specs.Parts.{isAtoms}
+use Rattle.chars.proofs.Laws.Lists.{all-weaken, and-left, and-right, by-test, neither, true-not-false}
+use Rattle.chars.proofs.Laws.Parts.{parted-all}
 use Rattle.mailaddr.specs.Shape.{Address, closing, escaped, inner, isText, shapeOf, unescaped, unquotedLocal}
 use Rattle.mailaddr.proofs.Laws.Closing.{closes, unescaped-plain}
-use Rattle.mailaddr.proofs.Laws.Shape.{IsLocal, Quoted, shape-local, shape-text}
+use Rattle.mailaddr.proofs.Laws.Shape.{IsLocal, Quoted, shape-domain, shape-local, shape-text}
 use Rattle.mailbox.specs.Mailbox.{bareText, emptyStart, localText}
 use Rattle.mailbox.specs.Needless.{noNeedless}
 use Rattle.lexical.proofs.Laws.Closing.{by-closing}
@@ -75,3 +80,54 @@ unfolding bareText
 address-same s a h k =
     let t = shape-text s a h in
     ap (λ (l : List ℕ). l ++ 64 ∷ a .domain) (same-local (a .isQuoted) (a .local) (a .domain) (shape-local s a h) (rw t at k)) ∙ sym t
+
+-- ---- and only there: no backslash of what is written is needless
+
+needless-all : (s r : List ℕ) → all (λ x. not (eqb x 92)) s ≡ true → noNeedless (s ++ r) ≡ noNeedless r
+unfolding all
+needless-all [] r h = refl
+needless-all (x ∷ s) r h =
+    needless-plain x (s ++ r) (not-true (eqb x 92) (and-left (not (eqb x 92)) (all (λ x. not (eqb x 92)) s) h))
+    ∙ needless-all s r (and-right (not (eqb x 92)) (all (λ x. not (eqb x 92)) s) h)
+
+needless-escaped : (s r : List ℕ) → noNeedless (escaped s ++ r) ≡ noNeedless r
+unfolding escaped noNeedless
+needless-escaped [] r = refl
+needless-escaped (x ∷ s) r =
+    by-test (eqb x 34 || eqb x 92)
+    (λ e. rw (e, needless-escaped s r, e))
+    (λ e. rw e (needless-plain x (escaped s ++ r) (neither (eqb x 34) (eqb x 92) e .1) ∙ needless-escaped s r))
+
+-- no byte of atoms is a backslash
+atom-plain : (x : ℕ) → (eqb x 46 || isAtomChar x) ≡ true → not (eqb x 92) ≡ true
+unfolding isAtomChar between member
+atom-plain x h =
+    by-test (eqb x 92)
+    (λ e. let z : x ≡ 92 = eqb-true x 92 e in true-not-false true refl (sym (rw z at h)))
+    (λ e. rw e)
+
+needless-atoms : (s r : List ℕ) → isAtoms s ≡ true → noNeedless (s ++ r) ≡ noNeedless r
+unfolding isAtoms
+needless-atoms s r h = needless-all s r (all-weaken (λ x. eqb x 46 || isAtomChar x) (λ x. not (eqb x 92)) atom-plain s (parted-all 46 isAtomChar s h))
+
+written-needless : (q : Bool) (l d : List ℕ) → IsLocal q l → isAtoms d ≡ true
+    → noNeedless (localText q (unquotedLocal (record { local = l; isQuoted = q; domain = d })) ++ 64 ∷ d) ≡ noNeedless (d ++ [])
+unfolding IsLocal localText unquotedLocal
+written-needless true l d k h =
+    let u : List ℕ = unescaped (inner l) in
+    ap (λ (t : List ℕ). noNeedless (34 ∷ t)) (append-assoc (escaped u) (34 ∷ []) (64 ∷ d))
+    ∙ needless-plain 34 (escaped u ++ 34 ∷ 64 ∷ d) refl
+    ∙ needless-escaped u (34 ∷ 64 ∷ d)
+    ∙ needless-plain 34 (64 ∷ d) refl
+    ∙ needless-plain 64 d refl
+    ∙ ap noNeedless (sym (append-nil d))
+written-needless false l d k h =
+    needless-atoms l (64 ∷ d) k ∙ needless-plain 64 d refl ∙ ap noNeedless (sym (append-nil d))
+
+pub address-needless : (s : List ℕ) (a : Address) → shapeOf s ≡ some a
+    → bareText (record { local = unquotedLocal a; isQuoted = a .isQuoted; domain = a .domain; phrase = emptyStart }) ≡ s → noNeedless s ≡ true
+unfolding bareText noNeedless
+address-needless s a h e =
+    ap noNeedless (sym e)
+    ∙ written-needless (a .isQuoted) (a .local) (a .domain) (shape-local s a h) (shape-domain s a h)
+    ∙ needless-atoms (a .domain) [] (shape-domain s a h)

@@ -144,6 +144,10 @@ module _ (t : Table) (f : Formed t) (s : List ℕ) (a : Address) (h : shaping s 
       dd-added bare (bare-made .made) carrierType (coded s) dd-good (omega arith) .1
       ∙ ap (λ (x : Attributes). record { single = x .single; units = x .units; dds = x .dds ++ (dd ∷ []) }) (bare-made .shows)
 
+  -- it has one DD, whose value is the whole coded text
+  pub carrier-dds : view (carrierOf (t .gateway .path) s) .dds ≡ record { kind = carrierType; value = coded s } ∷ []
+  carrier-dds = ap (λ (x : Attributes). x .dds) carrier-shows
+
   pub carrier-canonical : canonicalRecord (carrierOf (t .gateway .path) s) ≡ true
   unfolding canonicalRecord
   carrier-canonical =
@@ -181,3 +185,11 @@ module _ (table s old : List ℕ) (t : Table) (a : Address) (g : loadedFrom tabl
       by-test (ltb longestCoded (length (coded s)))
       (λ e. absurd (omega (arith, rw (text-carried, e) at n)))
       (λ e. rw (text-carried, e, g) (carried-comes-back t (loaded-formed table t g) s a h (ltb-false longestCoded (length (coded s)) e) old m))
+
+  pub carried-dds-text : addressToRecord table s .number ≡ 0
+      → view (addressToRecord table s .record') .dds ≡ record { kind = carrierType; value = coded s } ∷ []
+  unfolding carrying mapped refusedRecord
+  carried-dds-text n =
+      by-test (ltb longestCoded (length (coded s)))
+      (λ e. absurd (omega (arith, rw (text-carried, e) at n)))
+      (λ e. rw (text-carried, e) (carrier-dds t (loaded-formed table t g) s a h (ltb-false longestCoded (length (coded s)) e)))

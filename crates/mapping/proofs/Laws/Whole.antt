@@ -21,7 +21,7 @@ use Rattle.oraddr.specs.Canonical.{canonicalRecord, isDd, isUnit}
 use Rattle.oraddr.specs.View.{ddInRange, ddsInRange, emptyRecord, inRange, singlesInRange, singlesView, unitsInRange, valueOf, valueView, view}
 use Rattle.oraddr.specs.declared.record.Record.{Record}
 use Rattle.oraddr.proofs.Laws.Made.{Made, dd-count, made-empty, made-single, made-unit, single-length, unit-count}
-use Rattle.ortext_read.specs.Apply.{Reading, addAll, addNamed, again, applied, complete, finish, hasEmpty, hasRepeated, hasUnknown, nameAlone, named, nameOf, namedAgain, pnMeets, read, readAsName, readLocal, refused, unread, withName}
+use Rattle.ortext_read.specs.Apply.{Reading, addAll, addNamed, again, applied, complete, finish, hasEmpty, hasRepeated, hasUnknown, nameAlone, named, nameOf, namedAgain, pnMeets, read, readAsName, readLocal, readText, refused, unread, withName}
 use Rattle.ortext_build.specs.Adding.{addDds, addSingles, addUnits, andThen}
 use Rattle.ortext_segments.specs.Keys.{keys}
 use Rattle.ortext_name.specs.Name.{Name, readName}
@@ -39,7 +39,7 @@ use Rattle.mapping.specs.Answers.{isGood, readWell}
 use Rattle.mapping.specs.Carried.{carriedWhole, isGateway, readOver, resultOf, settledUnder}
 use Rattle.mapping.specs.Results.{RecordResult, mapped}
 use Rattle.mapping.specs.ToRecord.{recordBy, recordIn, toRecord}
-use Rattle.mapping.specs.Whole.{NamedBy, SettledBy, Whole, atGateway, byName, byRow, bySegments, completed, merged}
+use Rattle.mapping.specs.Whole.{NamedBy, SettledBy, Whole, WholeText, atGateway, byName, byRow, bySegments, completed, merged}
 use Rattle.mapping.proofs.Laws.Carried as carried
 use Rattle.mapping.proofs.Laws.Carried.{carried-is, good-result, local-over}
 
@@ -275,6 +275,33 @@ pub whole-local : (n : ℕ) (r q : Record) (s : List ℕ) → Made r → readLoc
     → (b : Attributes) × NamedBy s b × (view q ≡ completed (merged (view r) b))
 unfolding readOver
 whole-local n r q s m h = by-reading n r q s m (readSegments keys s) refl (sym (local-over n r s) ∙ h)
+
+-- A record text read by itself gives, value by value, what it names.
+module _ (q : Record) (s : List ℕ) where
+  text-named : (gs : List Segment) (o : Option Attributes) → readSegments keys s ≡ some gs → named gs ≡ o → addNamed emptyRecord o ≡ read q → WholeText s q
+  unfolding addNamed
+  text-named gs none f e h = let z : _≡_ {A = ℕ} 0 1 = cc in absurd (omega arith)
+  text-named gs (some b) f e h =
+      record {
+        segments = gs;
+        names = b;
+        reads = f;
+        named = e;
+        shows = added-shows b emptyRecord q made-empty (ap places (sym e) ∙ named-places gs) h;
+      }
+
+  text-segments : (o : Option (List Segment)) → readSegments keys s ≡ o → applied 0 emptyRecord o ≡ read q → WholeText s q
+  unfolding applied
+  text-segments none f h = let z : _≡_ {A = ℕ} 0 1 = cc in absurd (omega arith)
+  text-segments (some gs) f h =
+      by-test (namedAgain 0 gs)
+      (λ e. let p : _≡_ {A = Reading} again (read q) = rw e at h in
+      let z : _≡_ {A = ℕ} 0 1 = cc in absurd (omega arith))
+      (λ e. text-named gs (named gs) f refl (rw e at h))
+
+  pub whole-text : readText keys 0 emptyRecord s ≡ read q → WholeText s q
+  unfolding readText
+  whole-text h = text-segments (readSegments keys s) refl h
 
 -- ---- what the domain settled
 

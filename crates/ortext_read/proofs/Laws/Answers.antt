@@ -14,11 +14,11 @@ use Rattle.chars.proofs.Laws.Seq.{some-length, some-test}
 use Rattle.chars.specs.Lists.{nonEmpty}
 use Rattle.oraddr.specs.Attributes.{singleOf}
 use Rattle.oraddr.specs.Bounds.{ADMD, C}
-use Rattle.oraddr.specs.View.{view}
+use Rattle.oraddr.specs.View.{emptyRecord, view}
 use Rattle.oraddr.specs.Add.{Outcome, addSingle}
 use Rattle.oraddr.specs.declared.record.Record.{Record}
 use Rattle.ortext_read.proofs.Laws.Apply.{complete-has}
-use Rattle.ortext_read.specs.Answers.{answered, reading, readHeld}
+use Rattle.ortext_read.specs.Answers.{ReadingResult, answerNumber, answered, readHeld, reading, readingResult, toldReading}
 use Rattle.ortext_read.specs.Apply as apply
 use Rattle.ortext_read.specs.Apply.{addAll, addNamed, again, complete, finish, nameAlone, orName, read, readAsName, readLocal, readText, refused, unread}
 use Rattle.ortext_build.specs.Adding.{addDds, addSingles, addUnits, addHeld, addName, done, start}
@@ -30,17 +30,32 @@ use Rattle.ortext_read.specs.declared.read.Answer.{Answer}
 use Rattle.ortext_read.specs.declared.read.Answer.the-variants.{Again, Done, Refused, Unread}
 use Rattle.ortext_read.specs.declared.read.Reading.{Reading}
 
-pub answer-unread : (r : Reading) → r .answer ≡ Unread → reading r ≡ unread
-unfolding reading answered
-answer-unread r e = ap (λ a. answered a (r .«record»)) e
+-- a refusal has no record
+abbrev without : Answer → Reading
+without a = record { answer = a; «record» = emptyRecord }
 
-pub answer-refused : (r : Reading) → r .answer ≡ Refused → reading r ≡ refused
-unfolding reading answered
-answer-refused r e = ap (λ a. answered a (r .«record»)) e
+pub answer-unread : (r : Reading) → r ≡ without Unread → toldReading r ≡ readingResult unread
+unfolding reading answered readingResult
+answer-unread r e = ap toldReading e
 
-pub answer-again : (r : Reading) → r .answer ≡ Again → reading r ≡ again
-unfolding reading answered
-answer-again r e = ap (λ a. answered a (r .«record»)) e
+pub answer-refused : (r : Reading) → r ≡ without Refused → toldReading r ≡ readingResult refused
+unfolding reading answered readingResult
+answer-refused r e = ap toldReading e
+
+pub answer-again : (r : Reading) → r ≡ without Again → toldReading r ≡ readingResult again
+unfolding reading answered readingResult
+answer-again r e = ap toldReading e
+
+-- what a reader came to is what its result says
+outcome-is : (x : apply.Reading) → readingResult x .outcome ≡ x
+unfolding readingResult
+outcome-is unread = refl
+outcome-is refused = refl
+outcome-is again = refl
+outcome-is (read r) = refl
+
+pub reads-as : (r : Reading) (x : apply.Reading) → toldReading r ≡ readingResult x → reading r ≡ x
+reads-as r x e = ap (λ (o : ReadingResult). o .outcome) e ∙ outcome-is x
 
 -- the end of a reading is told by the record, if nothing was refused
 finishing : Option Record → apply.Reading
@@ -120,10 +135,13 @@ isUnread Unread = true
 isUnread Refused = false
 isUnread Again = false
 
-module _ (n : ℕ) (r : Record) (s : List ℕ) (first : Reading) (e : reading first ≡ readText keys n r s) where
+module _ (n : ℕ) (r : Record) (s : List ℕ) (first : Reading) (e : toldReading first ≡ readingResult (readText keys n r s)) where
+  text-is : reading first ≡ readText keys n r s
+  text-is = reads-as first (readText keys n r s) e
+
   pub local-name : first .answer ≡ Unread → readAsName r (readName s) ≡ readLocal keys n r s
-  unfolding readLocal orName
-  local-name f = ap (orName r s) (sym (answer-unread first f) ∙ e)
+  unfolding readLocal orName reading answered
+  local-name f = ap (orName r s) (sym (ap (λ a. answered a (first .«record»)) f) ∙ text-is)
 
   or-kept : (a : Answer) (q : Record) → isUnread a ≡ false → answered a q ≡ orName r s (answered a q)
   unfolding answered orName isUnread
@@ -132,6 +150,9 @@ module _ (n : ℕ) (r : Record) (s : List ℕ) (first : Reading) (e : reading fi
   or-kept Refused q f = refl
   or-kept Again q f = refl
 
-  pub local-text : isUnread (first .answer) ≡ false → reading first ≡ readLocal keys n r s
+  text-local : isUnread (first .answer) ≡ false → reading first ≡ readLocal keys n r s
   unfolding readLocal reading
-  local-text f = or-kept (first .answer) (first .«record») f ∙ ap (orName r s) e
+  text-local f = or-kept (first .answer) (first .«record») f ∙ ap (orName r s) text-is
+
+  pub local-text : isUnread (first .answer) ≡ false → toldReading first ≡ readingResult (readLocal keys n r s)
+  local-text f = e ∙ ap readingResult (sym text-is ∙ text-local f)

@@ -30,11 +30,11 @@ use Rattle.ortext_segments.specs.Keys.{Keys, SHORT-KEYS, keyNumber, keys}
 use Rattle.ortext_name.specs.Name.{Name, isShort, nameText}
 use Rattle.ortext_segments.specs.Segments.{Segment}
 use Rattle.ortext_read.specs.Apply.{Reading, addAll, addNamed, applied, finish, nameAlone, orName, read, readAsName, readLocal, readText}
-use Rattle.ortext_write.specs.Write.{hasShort, localText, nameIn, onlyName, recordText, remaining, shortKey, writesShort}
+use Rattle.ortext_write.specs.Write.{hasShort, localText, nameIn, onlyName, recordText, remaining, shortKey, spelledAttributes, spelledDd, writesShort}
 use Rattle.ortext_read.proofs.Laws.Apply.{Fits, all-added, complete-has, merged, over}
 use Rattle.ortext_name.proofs.Laws.Name.{name-short}
 use Rattle.ortext_write.proofs.Laws.Write.{remaining-length}
-use Rattle.ortext_write.proofs.Laws.Written.{goodKeys, keys-good, short-never-text, spelledAttributes, spelledDd, text-back}
+use Rattle.ortext_write.proofs.Laws.Written.{goodKeys, keys-good, short-never-text, text-back}
 
 -- ---- two lists that agree, in parts
 

@@ -30,7 +30,7 @@ use Rattle.oraddr.proofs.Laws.Canonical.{canonical-parts}
 use Rattle.ortext_read.proofs.Laws.Values.{dds-append, values-append}
 use Rattle.ortext_read.specs.Apply.{addNamed, applied, readText, ddsOf, hasEmpty, hasRepeated, hasUnknown, nameOf, named, namedAgain, pnMeets, singleKeys, valueAt, valuesAt, withName}
 use Rattle.ortext_name.specs.Name.{Name, isShort, nameText}
-use Rattle.ortext_write.specs.Write.{ddSegment, plainSegment, segmentsAt, segmentsIn, order, recordText, remaining, hasShort, joined, keyValue, longDd, quoted, segmentText, segmentsText, shortKey}
+use Rattle.ortext_write.specs.Write.{ddSegment, plainSegment, segmentsAt, segmentsIn, order, recordText, remaining, hasShort, joined, keyValue, longDd, quoted, segmentText, segmentsText, shortKey, spelledAttributes, spelledDd}
 use Rattle.ortext_segments.proofs.Laws.Keys.{dot, equals, key-clear, run-none, slash}
 use Rattle.ortext_write.proofs.Laws.Write.{remaining-length, single-left, single-out}
 use Rattle.ortext_segments.proofs.Laws.Segments.{good-segment, prepend, prepend-prepend, read-other, read-start, rest-end, segment-sides, stopless, stopless-append, symbols-key, symbols-plain}
@@ -268,15 +268,6 @@ pub short-never-text : (ks : Keys) (m : Name) (gq : List ℕ) → isShort m gq �
 short-never-text ks m gq h = read-other ks (nameText m) (λ e. short-no-slash m gq h (first-at (nameText m) ∙ e))
 
 -- ---- attributes
-
--- attributes as they come back
-unfoldable pub spelledDd : Keys → Dd → Dd
-unfolding hasShort shortKey
-spelledDd ks d = cond (hasShort ks (d .kind)) (record { kind = shortKey ks (d .kind); value = d .value }) d
-
-unfoldable pub spelledAttributes : Keys → Attributes → Attributes
-unfolding spelledDd
-spelledAttributes ks a = record { single = a .single; units = a .units; dds = map (spelledDd ks) (a .dds) }
 
 -- a value, if there is one
 unfoldable one : List ℕ → List (List ℕ)

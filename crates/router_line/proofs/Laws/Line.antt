@@ -15,7 +15,8 @@ use Rattle.oraddr.specs.Canonical.{canonicalRecord}
 use Rattle.oraddr.specs.View.{emptyRecord, view}
 use Rattle.oraddr.specs.declared.record.Record.{Record}
 use Rattle.oraddr.proofs.Laws.Canonical.{canonical-view}
-use Rattle.ortext_read.specs.Answers.{reading}
+use Rattle.ortext_read.specs.Answers.{reading, readingResult, toldReading}
+use Rattle.ortext_read.proofs.Laws.Answers.{reads-as}
 use Rattle.ortext_read.specs.Apply as apply
 use Rattle.ortext_read.specs.Apply.{again, read, readText, refused, unread}
 use Rattle.ortext_segments.specs.Keys.{keys}
@@ -103,10 +104,10 @@ module _ (t : Table) (r : Record) where
   sent-none h k = sent-as none h k
 
 -- the reading of a text, as the line that it comes to
-module _ (t : Table) (e : Record) (s : List ℕ) (x : Reading) (z : e ≡ emptyRecord) (k : reading x ≡ readText keys 0 e s) where
+module _ (t : Table) (e : Record) (s : List ℕ) (x : Reading) (z : e ≡ emptyRecord) (k : toldReading x ≡ readingResult (readText keys 0 e s)) where
   pub read-as : (y : apply.Reading) → reading x ≡ y → readLine t y ≡ textLine (wellFormed t) s
   unfolding textLine
-  read-as y h = ap (readLine t) (sym h ∙ k ∙ ap (λ (r : Record). readText keys 0 r s) z)
+  read-as y h = ap (readLine t) (sym h ∙ reads-as x (readText keys 0 e s) k ∙ ap (λ (r : Record). readText keys 0 r s) z)
 
 module _ (s ds rs : List ℕ) (t : Loaded) where
   -- record to address reads the gateway and the rows to a domain alone

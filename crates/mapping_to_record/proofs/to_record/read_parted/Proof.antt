@@ -7,6 +7,7 @@ use Prim.Native.Nat.{_+_}
 use borrow.Author.Needs.{needs}
 use lib.ListN.{drop}
 use Rattle.chars.proofs.Laws.Lists.{failed, passed}
+use Rattle.ortext_read.specs.Answers.{readingResult}
 use Rattle.mailaddr.specs.Answers.{addressAt, localAt}
 use Rattle.mailaddr.specs.Domain.{isDomain}
 use Rattle.chars.proofs.Laws.Seq.{rest-of}
@@ -32,7 +33,7 @@ returns c =
     let at = c .before .before in
     let a = at .before .before .before .before .before .before .args in
     c .unread .ensures
-    ∙ sym (well-other (inward (a .text .now) (a .to-path .now) (a .table)) (addressAt (a .s .now) (a .parted)) (failed (tested at) (c .before .if1 .taken)))
+    ∙ ap readingResult (sym (well-other (inward (a .text .now) (a .to-path .now) (a .table)) (addressAt (a .s .now) (a .parted)) (failed (tested at) (c .before .if1 .taken))))
 
 -- the domain is of domain parts, and what it settles
 parts : (c : tie.After-settle-under) → let a = c .before .before .before .before .before .before .before .before .args in
@@ -53,8 +54,8 @@ returns-2 c =
     let n = c .before .before .answer .given in
     let r = at .settle-under .result in
     c .read-under .ensures
-    ∙ sym (well-settled (inward (a .text .now) (a .to-path .now) (a .table)) (addressAt (a .s .now) (a .parted)) (parts at) (n .0 .0) (r .«record»)
-    (settles at ∙ answer-is r (Levels (n .0 .0)) (n .1)))
+    ∙ ap readingResult (sym (well-settled (inward (a .text .now) (a .to-path .now) (a .table)) (addressAt (a .s .now) (a .parted)) (parts at) (n .0 .0) (r .«record»)
+    (settles at ∙ answer-is r (Levels (n .0 .0)) (n .1))))
 
 returns-3 : tie.Need-returns-3
 unfolding addressAt
@@ -62,8 +63,8 @@ returns-3 c =
     let at = c .before .before .before .before in
     let a = at .before .before .before .before .before .before .before .before .args in
     c .unread2 .ensures
-    ∙ sym (well-no-row (inward (a .text .now) (a .to-path .now) (a .table)) (addressAt (a .s .now) (a .parted)) (parts at)
-    (settles at ∙ answer-is (at .settle-under .result) NoRow (c .before .enum-told .given .1)))
+    ∙ ap readingResult (sym (well-no-row (inward (a .text .now) (a .to-path .now) (a .table)) (addressAt (a .s .now) (a .parted)) (parts at)
+    (settles at ∙ answer-is (at .settle-under .result) NoRow (c .before .enum-told .given .1))))
 
 returns-4 : tie.Need-returns-4
 unfolding addressAt
@@ -71,8 +72,8 @@ returns-4 c =
     let at = c .before .before .before .before in
     let a = at .before .before .before .before .before .before .before .before .args in
     c .unread3 .ensures
-    ∙ sym (well-past-units (inward (a .text .now) (a .to-path .now) (a .table)) (addressAt (a .s .now) (a .parted)) (parts at)
-    (settles at ∙ answer-is (at .settle-under .result) PastUnits (c .before .enum-told2 .given .1)))
+    ∙ ap readingResult (sym (well-past-units (inward (a .text .now) (a .to-path .now) (a .table)) (addressAt (a .s .now) (a .parted)) (parts at)
+    (settles at ∙ answer-is (at .settle-under .result) PastUnits (c .before .enum-told2 .given .1))))
 
 returns-5 : tie.Need-returns-5
 unfolding addressAt
@@ -80,8 +81,8 @@ returns-5 c =
     let at = c .before .before .before .before in
     let a = at .before .before .before .before .before .before .before .before .args in
     c .unread4 .ensures
-    ∙ sym (well-past-bound (inward (a .text .now) (a .to-path .now) (a .table)) (addressAt (a .s .now) (a .parted)) (parts at)
-    (settles at ∙ answer-is (at .settle-under .result) PastBound (c .before .enum-told3 .given .1)))
+    ∙ ap readingResult (sym (well-past-bound (inward (a .text .now) (a .to-path .now) (a .table)) (addressAt (a .s .now) (a .parted)) (parts at)
+    (settles at ∙ answer-is (at .settle-under .result) PastBound (c .before .enum-told3 .given .1))))
 
 pub read-parted-spec : {M : Type 1} → statement M
 read-parted-spec = tie.close (tie.spec (λ c. search needs) (λ c. search needs) (λ c. search needs) (λ c. search needs) (λ c κs. search needs)

@@ -1,10 +1,12 @@
 -- `mapping_to_record::to_record::read_under` meets its contract: the unquoted local part stands at the front of the buffer.
 -- Assumes nothing.
 use mathlib.Core.Path.{ap, _∙_}
-use Prim.Native.Nat.{_≤_}
+use mathlib.Core.List.{List}
+use Prim.Native.Nat.{ℕ, _≤_}
 use native.Mathlib.Omega.{arith}
 use borrow.Author.Needs.{needs}
 use lib.ListN.{length, length-take}
+use Rattle.ortext_read.specs.Answers.{readingResult}
 use Rattle.mapping.specs.Answers.{readSettled}
 use Rattle.chars.proofs.Laws.Write.{wrote-taken}
 use Rattle.mailaddr.proofs.Laws.Shaped.{local-length}
@@ -30,7 +32,7 @@ returns c =
     let u = c .before .before .before in
     let a = u .before .before .before .args in
     c .read-over .ensures
-    ∙ ap (readSettled (a .n) (a .rec)) (wrote-taken (u .unquote-local .ensures) (omega (arith, local-length (a .s .now) (a .parted))))
+    ∙ ap (λ (s : List ℕ). readingResult (readSettled (a .n) (a .rec) s)) (wrote-taken (u .unquote-local .ensures) (omega (arith, local-length (a .s .now) (a .parted))))
 
 pub read-under-spec : {M : Type 1} → statement M
 read-under-spec = tie.close (tie.spec (λ c. search needs) (λ c κs. search needs) array-share-prefix-local slice-aggregate-read-over

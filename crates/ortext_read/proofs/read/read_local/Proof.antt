@@ -1,13 +1,14 @@
 -- `ortext_read::read::read_local` meets its contract.
 -- Assumes nothing.
 use mathlib.Core.Path.{ap, _∙_}
+use Rattle.ortext_read.specs.Answers.{readingResult}
 use Rattle.ortext_read.proofs.Laws.Answers.{isUnread, local-name, local-text}
 use borrow.Author.Needs.{needs}
 use Rattle.ortext_read.proofs.read.read_local.Statement.{statement}
 use Rattle.ortext_read.proofs.read.read_local.Tie as tie
 
 returns : tie.Need-returns
-returns c = let a = c .before .before .before .before .before .args in let f = c .before .before .before .read-text in c .as-name .ensures ∙ local-name (a .n) (a .rec) (a .s .now) (f .result) (f .ensures) (c .before .enum-told .given .1)
+returns c = let a = c .before .before .before .before .before .args in let f = c .before .before .before .read-text in c .as-name .ensures ∙ ap readingResult (local-name (a .n) (a .rec) (a .s .now) (f .result) (f .ensures) (c .before .enum-told .given .1))
 
 returns-2 : tie.Need-returns-2
 unfolding isUnread
