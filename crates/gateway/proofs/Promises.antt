@@ -11,11 +11,11 @@ use borrow.Author.Tests.{eqb-true, le-ltb, lt-ltb, ltb-false, eq-eqb, ne-eqb}
 use lib.Dec.{eqb, ltb}
 use lib.ListN.{length, take, drop, getD, length-append}
 use Rattle.chars.specs.Lists.{all, member}
-use Rattle.chars.specs.Write.{front, placedText, refusedText, Wrote}
+use Rattle.chars.specs.Write.{Wrote, front, placedText, refusedText}
 use Rattle.chars.proofs.Laws.Lists.{by-test, true-not-false}
 use Rattle.chars.proofs.Laws.Write.{drop-front, length-front, wrote-front, wrote-taken}
 use Rattle.oraddr.specs.Canonical.{canonicalRecord, isDd, isUnit}
-use Rattle.oraddr.specs.View.{emptyRecord, view, domainDefinedOf, valueOf}
+use Rattle.oraddr.specs.View.{domainDefinedOf, emptyRecord, valueOf, view}
 use Rattle.oraddr.specs.declared.record.Record.{Record}
 use Rattle.ortext_read.specs.Apply as apply
 use Rattle.ortext_read.specs.Apply.{again, read, readText, refused, unread}
@@ -27,13 +27,13 @@ use Rattle.mailaddr.specs.Shape.{Address, longestAddress, shapeOf}
 use Rattle.table.specs.Lines.{TableOutcome, loadedFrom, malformed, wellFormed}
 use Rattle.table.specs.Table.{Table}
 use Rattle.mapping.specs.Carried.{carriedWhole, carrierOf, carrying, longestCoded, resultOf}
-use Rattle.mapping.specs.Results.{RecordResult, malformedAddress, malformedRecord, mapped, placed, refusedAddress, refusedRecord, AddressResult}
-use Rattle.mapping.specs.ToAddress.{addressOf, placedIn, recordToAddress, toAddress, toAddressBy, isCarrier}
+use Rattle.mapping.specs.Results.{AddressResult, RecordResult, malformedAddress, malformedRecord, mapped, placed, refusedAddress, refusedRecord}
+use Rattle.mapping.specs.ToAddress.{addressOf, isCarrier, placedIn, recordToAddress, toAddress, toAddressBy}
 use Rattle.mapping.specs.ToRecord.{addressToRecord, recordBy, recordIn, toRecord, toRecordBy}
 use Rattle.mapping.proofs.Laws.CarriedBack.{carried-back-text}
 use Rattle.mapping.proofs.Laws.Whole.{returned-canonical}
 use Rattle.soundness.specs.Check.{CheckResult, Demand3}
-use Rattle.soundness.specs.Sound.{Sound, IsReturned}
+use Rattle.soundness.specs.Sound.{IsReturned, Sound}
 use Rattle.dates.specs.Convert.{converted, dateToUtc, utcToDate}
 use Rattle.date_read.specs.Read.{readDate, readUtc}
 use Rattle.dates.specs.Write.{dateText, utcText}
@@ -51,16 +51,16 @@ use Rattle.lexical.specs.Tokens.{longestLine}
 use Rattle.lexical.proofs.Laws.Depth.{nested, nested-too-deep}
 use Rattle.mailbox.specs.Mailbox.{Bare, bareIn, bareText, mailboxBy, phrasePlace, placeIn, readMailbox, reading, readingOf, textBy}
 use Rattle.mailbox.proofs.Laws.Address.{address-reading}
-use Rattle.mailbox.proofs.Laws.AddressSame.{address-same, address-needless}
+use Rattle.mailbox.proofs.Laws.AddressSame.{address-needless, address-same}
 use Rattle.mailbox.proofs.Laws.Again.{unnamed-text, written-again}
 use Rattle.mailbox.proofs.Laws.Bare.{written-meaning, written-shape}
 use Rattle.router.proofs.Laws.Calls.{call-moves, calls-whole}
 use Rattle.router_line.proofs.Laws.Line.{loaded-rules}
 use Rattle.gateway_mailbox.proofs.Laws.Mailboxes.{place-inside, result-inside}
-use Rattle.gateway_pack.proofs.Laws.Packed.{number-back, size-back, count-back, count-number}
+use Rattle.gateway_pack.proofs.Laws.Packed.{count-back, count-number, number-back, size-back}
 use Rattle.gateway_text.specs.Texts.{readOutcome, recordOfText, textOfRecord}
 use Rattle.gateway.specs.Exports.{addressToText, readingToAddress, textResult, textToAddress, textToAddressBy}
-use Rattle.gateway.specs.Promises.{Accepted, AddressRules, Dates, Demand1, Demand2, Demand3Exactly, EndsBuffer, EndsRecord, Judgement, MailboxRules, Mailboxes, Packing, Promises, RecordRules, Restricted, Router, withoutLine, Limits, Returns, SharedTails, Struct}
+use Rattle.gateway.specs.Promises.{Accepted, AddressRules, Dates, Demand1, Demand2, Demand3Exactly, EndsBuffer, EndsRecord, Judgement, Limits, MailboxRules, Mailboxes, Packing, Promises, RecordRules, Restricted, Returns, Router, SharedTails, Struct, withoutLine}
 use native.Mathlib.Nat.{zero-add}
 use Rattle.chars.specs.Parts.{run}
 use Rattle.oraddr.specs.Add.{addDd, addSingle, addUnit, pushDd, pushUnit, setSingle}
@@ -70,6 +70,8 @@ use Rattle.mailaddr.proofs.Laws.Tail.{tail-drop, tail-longest, tail-place, tail
 use Rattle.soundness.proofs.Laws.Comes.{not-six-room, room-not-six}
 use Rattle.router.specs.Run.{called, ended}
 use Rattle.gateway.proofs.Laws.Entire.{addition-ends, short-shape, under-text, unshortened}
+use Rattle.table.proofs.Laws.FirstBad.{bad-first, first-bad, formed-well, well-formed}
+use Rattle.mapping.proofs.Laws.Carried.{carried-is}
 use Rattle.gateway.proofs.Laws.Exports.{not-canonical}
 
 -- ---- demand 1
@@ -313,6 +315,9 @@ pub demand2 : Demand2
 unfolding fromShape
 demand2 =
     record {
+      tables = λ table.
+          record { first-bad = first-bad table; bad-first = bad-first table; well-formed = well-formed table; formed-well = formed-well table };
+      carried-exactly = λ t a. carried-is t a;
       to-record = record-rules;
       to-address = address-rules;
       carried-back = λ table s old t a h l e c n m. carried-back-text table s old t a h (short-shape s (some a) l e) c n m;
@@ -343,6 +348,15 @@ returned-under table t r old h w =
       read = rw (e, under-text table (take (o .size) (o .buffer)) t h) (w .back .done, w .back .same);
     }
 
+-- and the other way
+under-returned : (table : List ℕ) (t : Table) (r : Record) (old : List ℕ) → loadedFrom table ≡ wellFormed t → Returns table r old
+    → IsReturned t r (toAddress t r old)
+under-returned table t r old h w =
+    let o = toAddress t r old in
+    let e = sent-under table r old t h in
+    let b = rw (e, under-text table (take (o .size) (o .buffer)) t h) at (w .read) in
+    record { done = ap (λ (x : AddressResult). x .number) (sym e) ∙ w .written; back = record { done = b .0; same = b .1 } }
+
 module _ (table : List ℕ) (o : CheckResult) where
   -- a sound table, by the results of the two mappings
   all-return : (t u : Table) (r : Record) (old : List ℕ) → loadedFrom table ≡ wellFormed t → Sound t → loadedFrom table ≡ wellFormed u → Struct r
@@ -362,6 +376,7 @@ module _ (table : List ℕ) (o : CheckResult) where
         shows = λ z. absurd (omega (arith, d .number));
         malformed-line = λ z. e ∙ ap malformed (sym (d .line));
         returns = λ t r old z f s c free n. absurd (omega (arith, d .number));
+        lost = λ z g. absurd (omega (arith, d .number));
         none-else = rw (d .number);
         empty = λ n. d .empty;
         no-line = λ n. absurd (n (d .number));
@@ -373,6 +388,7 @@ module _ (table : List ℕ) (o : CheckResult) where
         shows = λ z. absurd (omega (arith, a .number));
         malformed-line = λ z. absurd (omega (arith, a .number));
         returns = λ u r old z f s c free n. all-return t u r old e (a .sound) f s c free n;
+        lost = λ z g. absurd (omega (arith, a .number));
         none-else = rw (a .number);
         empty = λ n. a .empty;
         no-line = λ n. a .line;
@@ -384,6 +400,9 @@ module _ (table : List ℕ) (o : CheckResult) where
         shows = λ z. record { spelled = t; formed = e; witness = r .witness };
         malformed-line = λ z. absurd (omega (arith, r .number));
         returns = λ u q old z f s c free n. absurd (omega (arith, r .number));
+        lost = λ z g. r .witness .lost (λ old room.
+            under-returned table t (o .record') old e
+            (g old (λ k. room-not-six t (o .record') old room (ap (λ (x : AddressResult). x .number) (sym (sent-under table (o .record') old t e)) ∙ k))));
         none-else = rw (r .number);
         empty = λ n. absurd (n (r .number));
         no-line = λ n. r .line;

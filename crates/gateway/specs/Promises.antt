@@ -5,7 +5,7 @@
 -- Assumes nothing.
 use mathlib.Core.Path.{_≡_}
 use mathlib.Core.Logic.{_⊎_}
-use mathlib.Core.Bool.{Bool, true, false, cond}
+use mathlib.Core.Bool.{Bool, true, false, cond, not}
 use mathlib.Core.List.{List, [], _∷_, _++_}
 use mathlib.Core.Option.{none, some}
 use Prim.Native.Nat.{ℕ, _+_, _/_, _%_, _≤_, _<_}
@@ -30,8 +30,10 @@ use Rattle.mailaddr.specs.Code.{coded}
 use Rattle.mailaddr.specs.Domain.{domainOf, partsOf}
 use Rattle.mailaddr.specs.Shape.{Address, longestAddress, shapeOf, unquotedLocal}
 use Rattle.mailaddr.specs.Tail.{shared, sharedTail, tailPlace}
-use Rattle.table.specs.Lines.{loadedFrom, longestGatewayDomain, longestRowDomain, longestTable, malformed, mostRows, wellFormed}
+use Rattle.table.specs.FirstBad.{FirstBad, NoneBad}
+use Rattle.table.specs.Lines.{loadedFrom, longestGatewayDomain, longestRowDomain, longestTable, malformed, mostRows, tableLines, wellFormed}
 use Rattle.table.specs.Table.{Table}
+use Rattle.mapping.specs.Answers.{isGood, readWell}
 use Rattle.mapping.specs.Carried.{carriedWhole, carrierOf, carrierType, longestCoded, resultOf}
 use Rattle.mapping.specs.Results.{AddressResult, malformedAddress, malformedRecord, mapped, refusedAddress, refusedRecord}
 use Rattle.mapping.specs.ToAddress.{addressOf, isCarrier, recordToAddress, toAddress}
@@ -153,7 +155,18 @@ pub record AddressRules (table : List ℕ) (r : Record) (old : List ℕ) : Type 
   pub done : (t : Table) (s : List ℕ) → loadedFrom table ≡ wellFormed t → canonicalRecord r ≡ true → addressOf t (view r) ≡ some s
       → length s ≤ length old → recordToAddress table r old ≡ record { number = 0; line = 0; size = length s; buffer = front s old }
 
+-- 7, "the table is malformed", with the "number of the first bad line"; it is well-formed exactly when no line is bad
+pub record TableRules (table : List ℕ) : Type 0 where
+  pub first-bad : (n : ℕ) → loadedFrom table ≡ malformed n
+      → ((longestTable < length table) × (n ≡ 0)) ⊎ ((length table ≤ longestTable) × FirstBad (tableLines table) n)
+  pub bad-first : (n : ℕ) → length table ≤ longestTable → FirstBad (tableLines table) n → loadedFrom table ≡ malformed n
+  pub well-formed : (t : Table) → loadedFrom table ≡ wellFormed t → (length table ≤ longestTable) × NoneBad (tableLines table)
+  pub formed-well : length table ≤ longestTable → NoneBad (tableLines table) → (t : Table) × (loadedFrom table ≡ wellFormed t)
+
 pub record Demand2 : Type 0 where
+  pub tables : (table : List ℕ) → TableRules table
+  -- one of the clauses of "carried whole" holds exactly where the domain is not of domain parts or the four steps come to no canonical record
+  pub carried-exactly : (t : Table) (a : Address) → carriedWhole t a ≡ not (isGood (readWell t a))
   pub to-record : (table s : List ℕ) → RecordRules table s
   pub to-address : (table : List ℕ) (r : Record) (old : List ℕ) → AddressRules table r old
   pub carried-back : (table s old : List ℕ) (t : Table) (a : Address) → loadedFrom table ≡ wellFormed t → length s ≤ longestAddress → shapeOf s ≡ some a
@@ -195,6 +208,9 @@ pub record Judgement (table : List ℕ) (o : CheckResult) : Type 0 where
       → isCarrier t (view r) ≡ false → (recordToAddress table r old .number ≡ 6 → ⊥) → Returns table r old
   pub accepted : Accepted table → o .number ≡ 0
   pub shows : o .number ≡ 8 → Shown table (o .record')
+  -- that it does not come back, said of the two mappings
+  pub lost : o .number ≡ 8
+      → ((old : List ℕ) → (recordToAddress table (o .record') old .number ≡ 6 → ⊥) → Returns table (o .record') old) → ⊥
   pub malformed-line : o .number ≡ 7 → loadedFrom table ≡ malformed (o .line)
   pub none-else : member (o .number) (0 ∷ 7 ∷ 8 ∷ []) ≡ true
   -- "the record (from the check, an empty one)"; with 7 an "empty record", and the line is told with 7 alone
