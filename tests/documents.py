@@ -4,7 +4,7 @@
 Read are README.md and docs/*.md but docs/CHANGES.md, which names what went as well; of these only what stands in backquotes counts:
 - a path, from the top, from crates/ or from docs/, is there; a file's name alone is some file's;
 - `crate/edit`, without an ending, is that crate's must-fail edit;
-- names behind a path, or before the word "of" and a path, are declared in that file or below that folder;
+- names behind a path, or before the word "of" and a path or a crate, are declared in that file or below that folder;
 - any other name is declared somewhere, or is one of WORDS: names of mail, of X.400 and of the shell, which nothing here declares.
 What is not a name or a path (addresses, record text, commands) is passed over. The last line counts what was checked.
 """
@@ -26,7 +26,7 @@ WORDS = set(
 
 NAME = re.compile(r"[A-Za-z_][A-Za-z0-9_'·-]*$")
 DECLARED = {
-    ".rt": re.compile(r"\b(?:fn|struct|enum|const|mod|type|impl)\s+([A-Za-z_]\w*)|^use [\w:]+::(\w+);|^\s*(?:pub )?([a-z_]\w*)\s*:|^\s+([A-Z]\w*)(?:\(|,|\s*$)", re.M),
+    ".rt": re.compile(r"\b(?:fn|struct|enum|const|mod|type|impl)\s+([A-Za-z_]\w*)|^(?:pub )?use [\w:]+::(\w+);|^\s*(?:pub )?([a-z_]\w*)\s*:|^\s+([A-Z]\w*)(?:\(|,|\s*$)", re.M),
     ".antt": re.compile(r"^\s*(?:unfoldable |abbrev |pub |record |data )*([^\s:(){}]+)(?:\s+\(.*?\))*\s*:", re.M),
     ".rs": re.compile(r"\b(?:fn|struct|enum|const|mod|type|trait)\s+([A-Za-z_]\w*)"),
     ".py": re.compile(r"^\s*(?:def|class)\s+(\w+)|^([A-Z_]+)\s*=", re.M),
@@ -104,7 +104,11 @@ def check(where, line, wrong):
         joined = before.strip(" ,") in ("", "and", "or")
         if not joined:
             paths = []
-        if is_path(text):
+        if before.strip() == "of" and (TOP / "crates" / text).is_dir():
+            count += 1
+            wrong += [f"{where}: {name} is not in {text}" for name in held if not stands(name, [TOP / "crates" / text])]
+            held = []
+        elif is_path(text):
             count += 1
             paths = places(text)
             if not paths:
