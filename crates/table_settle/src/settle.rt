@@ -32,7 +32,7 @@ pub enum Settled {
     PastBound,
 }
 
-// The answer, and with Levels the record that has them. With any other the record says nothing: what was added so far may stand in it.
+// The answer, and with Levels the record that has them. Of the record with any other nothing is promised.
 pub struct Settlement {
     pub answer: Settled,
     pub record: Record,
