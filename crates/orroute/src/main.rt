@@ -7,17 +7,19 @@ use files::read_some;
 use files::read_table;
 use files::write_out;
 use libc::STDIN_FILENO;
+use router::run::Routed;
 use router::run::open;
 use router::run::route;
 use table::load::TableRead;
 use table::rows::ROWS_SIZE;
 ghost use mathlib.Core.Path.{_≡_};
-ghost use mathlib.Core.Bool.{false, true};
-ghost use Prim.Native.Nat.{_+_, _<_, _≤_};
-ghost use lib.ListN.{length, drop};
+ghost use Prim.Native.Nat.{_+_, _-_, _<_, _≤_};
+ghost use lib.ListN.{length, take, drop};
 ghost use lib.Seq.{paste};
+ghost use Rattle.table.specs.Load.{loadAnswer};
 ghost use Rattle.router_line.specs.Line.{answerRoom, longestLine};
 ghost use Rattle.router_line.specs.Ready.{Ready};
+ghost use Rattle.orroute.specs.Run.{Advancing, Answering, Stepping, stopped};
 
 // A table of as many bytes as one may have, and one more, so that a longer one is seen to be.
 const TABLE_ROOM: usize = 65537;
@@ -28,23 +30,36 @@ const INPUT_ROOM: usize = 65536;
 const OUTPUT_ROOM: usize = 65536;
 
 // What waits at the front of the input buffer: how many bytes, and whether they begin within a line over the limit. `ended` says that there
-// is nothing more to do.
+// is nothing more to do, `failed` that this is so because a read or a write failed.
 struct Waiting {
     over: bool,
     size: usize,
     ended: bool,
+    failed: bool,
 }
 
-// A read or a write failed: says so, and ends the run. What was left of the input is not answered, since it may be a part of a line.
-fn fail(what: &[u8]) -> Waiting
-    ensures { λ r. ⌜ r ≡ record { over = false; size = 0; ended = true } ⌝ }
+// The end of a run because a read or a write failed. What was left of the input is not answered, since it may be a part of a line.
+const STOPPED: Waiting = Waiting {
+    over: false,
+    size: 0,
+    ended: true,
+    failed: true,
+};
+
+// A read failed: says so.
+fn fail_input() -> Waiting
+    ensures { λ r. ⌜ r ≡ stopped ⌝ }
 {
-    os::fail(what);
-    Waiting {
-        over: false,
-        size: 0,
-        ended: true,
-    }
+    os::fail(b"standard input");
+    STOPPED
+}
+
+// A write failed: says so.
+fn fail_output() -> Waiting
+    ensures { λ r. ⌜ r ≡ stopped ⌝ }
+{
+    os::fail(b"standard output");
+    STOPPED
 }
 
 // Moves the n bytes from `from` on to the front.
@@ -57,6 +72,39 @@ fn shift(buf: &mut [u8], from: usize, n: usize)
         buf[i] = buf[from + i];
         i += 1;
     }
+}
+
+// Calls the router once on the first `size` bytes, and moves those that it left to the front.
+fn advance(
+    text: &[u8],
+    to_path: &[usize],
+    to_domain: &[usize],
+    read: TableRead,
+    input: &mut [u8],
+    over: bool,
+    size: usize,
+    last: bool,
+    out: &mut [u8],
+) -> Routed
+    requires { ⌜ Ready (now text) (now «to_path») (now «to_domain») read ⌝ }
+    requires { ⌜ size ≤ length (now input) ⌝ }
+    requires { ⌜ answerRoom ≤ length (now out) ⌝ }
+    ensures { λ r. ⌜ Advancing (loadAnswer (now (text .entry)) (now («to_path» .entry)) (now («to_domain» .entry)) read) over
+        (take size (now (input .entry))) last r (take (size - r .taken) (now (input .exit))) (now (out .exit)) ⌝ }
+{
+    let done = route(
+        text,
+        to_path,
+        to_domain,
+        read,
+        over,
+        &input[..size],
+        last,
+        out,
+    );
+    let taken = done.taken;
+    shift(input, taken, size - taken);
+    done
 }
 
 // Answers all lines of the first `size` bytes that can be answered, and leaves the rest at the front: no more than a line may have.
@@ -74,41 +122,27 @@ fn answer(
     requires { ⌜ Ready (now text) (now «to_path») (now «to_domain») read ⌝ }
     requires { ⌜ size ≤ length (now input) ⌝ }
     requires { ⌜ answerRoom ≤ length (now out) ⌝ }
-    ensures { λ r. ⌜ r .size ≤ longestLine ⌝ }
+    ensures { λ r. ⌜ Answering (loadAnswer (now (text .entry)) (now («to_path» .entry)) (now («to_domain» .entry)) read) over
+        (take size (now (input .entry))) last r (take (r .size) (now (input .exit))) ⌝ }
 {
     let mut over = over;
     let mut size = size;
-    while 0 < size {
-        let done = route(
-            text,
-            to_path,
-            to_domain,
-            read,
-            over,
-            &input[..size],
-            last,
-            out,
-        );
-        over = done.over;
-        let taken = done.taken;
-        if taken == 0 {
-            return Waiting {
-                over,
-                size,
-                ended: last,
-            };
-        }
+    let mut moved = true;
+    while moved {
+        let done = advance(text, to_path, to_domain, read, input, over, size, last, out);
         let n = done.written;
         if !write_out(&out[..n]) {
-            return fail(b"standard output");
+            return fail_output();
         }
-        size -= taken;
-        shift(input, taken, size);
+        over = done.over;
+        size -= done.taken;
+        moved = 0 < done.taken;
     }
     Waiting {
         over,
         size,
         ended: last,
+        failed: false,
     }
 }
 
@@ -119,16 +153,17 @@ fn step(
     to_domain: &[usize],
     read: TableRead,
     input: &mut [u8],
-    over: bool,
-    size: usize,
+    left: Waiting,
     out: &mut [u8],
 ) -> Waiting
     requires { ⌜ Ready (now text) (now «to_path») (now «to_domain») read ⌝ }
-    requires { ⌜ size ≤ longestLine ⌝ }
+    requires { ⌜ left .size ≤ longestLine ⌝ }
     requires { ⌜ longestLine < length (now input) ⌝ }
     requires { ⌜ answerRoom ≤ length (now out) ⌝ }
-    ensures { λ r. ⌜ r .size ≤ longestLine ⌝ }
+    ensures { λ r. ⌜ Stepping (loadAnswer (now (text .entry)) (now («to_path» .entry)) (now («to_domain» .entry)) read) (left .over)
+        (take (left .size) (now (input .entry))) r (take (r .size) (now (input .exit))) ⌝ }
 {
+    let size = left.size;
     match read_some(STDIN_FILENO, &mut input[size..]) {
         Got::Bytes(n) => answer(
             text,
@@ -136,12 +171,12 @@ fn step(
             to_domain,
             read,
             input,
-            over,
+            left.over,
             size + n,
             n == 0,
             out,
         ),
-        Got::Failed => fail(b"standard input"),
+        Got::Failed => fail_input(),
     }
 }
 
@@ -151,25 +186,18 @@ fn run(text: &[u8], to_path: &[usize], to_domain: &[usize], read: TableRead)
 {
     let mut input = [0u8; INPUT_ROOM];
     let mut out = [0u8; OUTPUT_ROOM];
-    let mut over = false;
-    let mut size = 0;
+    let mut left = Waiting {
+        over: false,
+        size: 0,
+        ended: false,
+        failed: false,
+    };
     let mut turns = u64::MAX;
     while turns > 0 {
-        let left = step(
-            text,
-            to_path,
-            to_domain,
-            read,
-            &mut input,
-            over,
-            size,
-            &mut out,
-        );
+        left = step(text, to_path, to_domain, read, &mut input, left, &mut out);
         if left.ended {
             return;
         }
-        over = left.over;
-        size = left.size;
         turns -= 1;
     }
 }

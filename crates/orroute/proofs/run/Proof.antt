@@ -9,10 +9,11 @@ use Rattle.orroute.proofs.run.Statement.{statement}
 use Rattle.orroute.proofs.run.Tie as tie
 
 abbrev Inv-loop : tie.InvT-loop
-Inv-loop text to-path to-domain read input₀ out₀ over₀ size₀ turns₀ input out over size turns = (length input ≡ 65536) × (length out ≡ 65536) × (size ≤ 4096)
+Inv-loop text to-path to-domain read input₀ out₀ left₀ turns₀ input out left turns =
+    (length input ≡ 65536) × (length out ≡ 65536) × (left .size ≤ 4096)
 
 abbrev μ-loop : tie.MeasureT-loop
-μ-loop text to-path to-domain read input₀ out₀ over₀ size₀ turns₀ input out over size turns = turns
+μ-loop text to-path to-domain read input₀ out₀ left₀ turns₀ input out left turns = turns
 
 step-requires : tie.Need-step-requires Inv-loop μ-loop
 step-requires c κs =

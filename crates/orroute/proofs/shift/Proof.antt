@@ -5,7 +5,7 @@ use Prim.Native.Nat.{ℕ, _-_, _+_, _≤_}
 use native.Mathlib.Omega.{arith}
 use lib.ListN.{length, drop, getD, set}
 use lib.Seq.{paste, paste-zero}
-use Rattle.orroute.proofs.Laws.{moved-length, moved-step}
+use Rattle.orroute.proofs.Laws.Moved.{moved-length, moved-step}
 use mathlib.Core.List.{List}
 use borrow.Author.Needs.{needs}
 use Rattle.orroute.proofs.shift.Statement.{statement}
