@@ -16,7 +16,7 @@ sub-say-count c =
     let b = c .before .before .before .args .b .now in
     let p = tail-suffix a b in
     let e : length (p .0) + length (sharedTail a b) ≡ length a = sym (length-append (p .0) (sharedTail a b)) ∙ ap length (p .1) in
-    omega (arith, ap length (c .shared-tail .ensures))
+    omega (arith, ap length (c .shared-tail .ensures .tail))
 
 returns : tie.Need-returns
 returns c = search needs
