@@ -1,7 +1,7 @@
 -- The page that a reader must believe: what Lesogrom promises, over the definitions that the contracts of `src/entry.rt` cite.
--- Each entry point's result is an equation to one of them (`addressToRecord`, `recordToAddress`, `recordOfText`, `textOfRecord`, `sharedTail`,
--- `utcToDate`, `dateToUtc`, `restrictText`, `unrestrictText`, `readMailbox`, `phrasePlace`), or says `Demand3` or `Routing` of it. `proofs/Promises.antt` proves every statement
--- of this page.
+-- Each entry point's result is an equation to one of them (`addressToRecord`, `recordToAddress`, `addSingle`, `addUnit`, `addDd`, `recordOfText`,
+-- `textOfRecord`, `utcToDate`, `dateToUtc`, `restrictText`, `unrestrictText`, `phrasePlace`), or says `Demand3`, `Routing`, `TailShown` (of `sharedTail`)
+-- or `Shows` (of `readMailbox`) of it. `proofs/Promises.antt` proves every statement of this page.
 -- Assumes nothing.
 use mathlib.Core.Path.{_≡_}
 use mathlib.Core.Logic.{_⊎_}
