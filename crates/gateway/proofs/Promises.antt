@@ -376,6 +376,7 @@ module _ (table : List ℕ) (o : CheckResult) where
         shows = λ z. absurd (omega (arith, d .number));
         malformed-line = λ z. e ∙ ap malformed (sym (d .line));
         returns = λ t r old z f s c free n. absurd (omega (arith, d .number));
+        witness = λ z. absurd (omega (arith, d .number));
         lost = λ z g. absurd (omega (arith, d .number));
         none-else = rw (d .number);
         empty = λ n. d .empty;
@@ -388,6 +389,7 @@ module _ (table : List ℕ) (o : CheckResult) where
         shows = λ z. absurd (omega (arith, a .number));
         malformed-line = λ z. absurd (omega (arith, a .number));
         returns = λ u r old z f s c free n. all-return t u r old e (a .sound) f s c free n;
+        witness = λ z. absurd (omega (arith, a .number));
         lost = λ z g. absurd (omega (arith, a .number));
         none-else = rw (a .number);
         empty = λ n. a .empty;
@@ -400,6 +402,11 @@ module _ (table : List ℕ) (o : CheckResult) where
         shows = λ z. record { spelled = t; formed = e; witness = r .witness };
         malformed-line = λ z. absurd (omega (arith, r .number));
         returns = λ u q old z f s c free n. absurd (omega (arith, r .number));
+        witness = λ z. (
+          r .witness .struct,
+          r .witness .canonical,
+          λ u f. ap (λ (x : Table). isCarrier x (view (o .record'))) (same-table u t (sym f ∙ e)) ∙ r .witness .free,
+        );
         lost = λ z g. r .witness .lost (λ old room.
             under-returned table t (o .record') old e
             (g old (λ k. room-not-six t (o .record') old room (ap (λ (x : AddressResult). x .number) (sym (sent-under table (o .record') old t e)) ∙ k))));

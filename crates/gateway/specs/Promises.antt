@@ -208,6 +208,9 @@ pub record Judgement (table : List ℕ) (o : CheckResult) : Type 0 where
       → isCarrier t (view r) ≡ false → (recordToAddress table r old .number ≡ 6 → ⊥) → Returns table r old
   pub accepted : Accepted table → o .number ≡ 0
   pub shows : o .number ≡ 8 → Shown table (o .record')
+  -- a canonical record, and no carrier
+  pub witness : o .number ≡ 8 → (IsStruct (o .record')) × (canonicalRecord (o .record') ≡ true)
+      × ((t : Table) → loadedFrom table ≡ wellFormed t → isCarrier t (view (o .record')) ≡ false)
   -- that it does not come back, said of the two mappings
   pub lost : o .number ≡ 8
       → ((old : List ℕ) → (recordToAddress table (o .record') old .number ≡ 6 → ⊥) → Returns table (o .record') old) → ⊥
