@@ -30,7 +30,7 @@ DECLARED = {
     ".antt": re.compile(r"^\s*(?:unfoldable |abbrev |pub |record |data )*([^\s:(){}]+)(?:\s+\(.*?\))*\s*:", re.M),
     ".rs": re.compile(r"\b(?:fn|struct|enum|const|mod|type|trait)\s+([A-Za-z_]\w*)"),
     ".py": re.compile(r"^\s*(?:def|class)\s+(\w+)|^([A-Z_]+)\s*=", re.M),
-    ".h": re.compile(r"\b(\w+)\s*\(|#define\s+(\w+)"),
+    ".h": re.compile(r"\b(\w+)\s*\(|#define\s+(\w+)|\bstruct\s+(\w+)"),
     ".c": re.compile(r"\b(\w+)\s*\("),
     ".toml": re.compile(r'^name = "(.*)"', re.M),
     "": re.compile(r"\$\{([A-Z_]+)|^(\w+)\(\)", re.M),

@@ -1,8 +1,8 @@
 #!/usr/bin/env python3
-"""Runs the two example programs of docs/examples/ on the tables of tests/examples/, and holds what they write against what is stored
-there.
+"""Runs the example programs of docs/examples/, those that take a table on the tables of tests/examples/, and holds what they write
+against what is stored there.
 
-    python3 tests/examples_run.py CHECK_TABLE MAP
+    python3 tests/examples_run.py CHECK_TABLE MAP LIST...
 
 Which witness goes with an unsound table is the library's choice; what is stored is the one that it makes today. Run it from the
 repository's root. The first output that differs ends it."""
@@ -12,7 +12,7 @@ import subprocess
 import sys
 import tempfile
 
-CHECK_TABLE, MAP = (os.path.abspath(name) for name in sys.argv[1:3])
+CHECK_TABLE, MAP, *LISTS = (os.path.abspath(name) for name in sys.argv[1:])
 WHERE = "tests/examples/"
 done = 0
 
@@ -57,6 +57,8 @@ def main():
         run([MAP, table + ".tsv"], read(f"{WHERE}map-{table}.expected"), 0, read(WHERE + "map.stdin"))
     run([MAP, "missing.tsv"], "", 1)
     run([MAP], "", 2)
+    for program in LISTS:
+        run([program], read(WHERE + "list.expected"), 0)
     print(f"{done} runs of the examples are as they must be")
 
 

@@ -15,6 +15,10 @@ _PART = re.compile(rb"[A-Za-z0-9]([A-Za-z0-9-]{0,61}[A-Za-z0-9])?")
 KEYS = ["C", "ADMD", "PRMD", "O", "OU", "OU", "OU", "OU"]
 
 
+def is_domain(domain, longest):
+    return len(domain) <= longest and all(_PART.fullmatch(p) for p in domain.split(b"."))
+
+
 def is_path(fields):
     ok = 2 <= len(fields) <= 8
     return ok and all(rules.keeps_rule(k, f) or (k == "PRMD" and f == b"") for k, f in zip(KEYS, fields))
@@ -25,7 +29,7 @@ def row_of(line, tags, longest):
     if len(fields) < 2 or fields[0] not in tags:
         return None
     domain, path = fields[1], fields[2:]
-    if len(domain) > longest or not all(_PART.fullmatch(p) for p in domain.split(b".")) or not is_path(path):
+    if not is_domain(domain, longest) or not is_path(path):
         return None
     return fields[0], domain, path
 

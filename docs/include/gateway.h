@@ -12,6 +12,10 @@
  * A path is two to eight fields: country, ADMD, PRMD (empty: left out), organisation, four units. At most 65,536 bytes and 512
  * rows after the first line.
  *
+ * A program that builds the rows itself may hand them over as a list in place of a text: an array of struct gateway_row (below),
+ * the gateway's entry first, and one text in which the domains and paths stand. The functions that take one begin with
+ * gateway_list_.
+ *
  * An address is RFC 822's local-part@domain, at most 2,048 bytes. A record is an X.400 address as text:
  *
  *     /G=Ann/S=Lee/OU=Pilots/O=brack/PRMD=TOW/ADMD=PORTNET/C=XY/
@@ -22,14 +26,15 @@
  *
  * What every function keeps to:
  *
- * - Any bytes and any lengths are taken. Nothing has to be checked before a call, and no text needs a NUL at its end; none is
- *   written either.
- * - No pointer is NULL, not even where its length is 0: hand over the address of any byte then.
- * - `out`, `taken` and `written` do not overlap each other or any other argument. The texts that are only read may overlap.
+ * - Any bytes, any lengths and any numbers in a list's entries are taken. Nothing has to be checked before a call, and no text
+ *   needs a NUL at its end; none is written either.
+ * - No pointer is NULL, not even where its length is 0: hand over the address of any byte then, or for `rows` that of any entry.
+ * - `out`, `taken` and `written` do not overlap each other or any other argument. What is only read may overlap.
  * - Bytes of `out` behind the text that is written stay as they were. On every number but 0 and 8 all of `out` stays as it was.
  * - Nothing is kept between calls, there is no global state and no memory is allocated, so any number of threads may call any of
  *   these at once, each with its own `out`. A thread with 256 kilobytes of stack has room for any call.
- * - The table is read afresh by each call. For many lines under one table, gateway_route reads it once a call.
+ * - The table, text or list, is read afresh by each call. For many lines under one table, gateway_route and gateway_list_route read
+ *   it once a call.
  */
 #ifndef GATEWAY_H
 #define GATEWAY_H
@@ -43,7 +48,8 @@ extern "C" {
 #endif
 
 /*
- * Every function but gateway_shared_tail, gateway_route and gateway_phrase returns a number with a count above it:
+ * Every function but gateway_shared_tail, gateway_route, gateway_list_route and gateway_phrase returns a number with a count above
+ * it:
  *
  *     size_t answer = gateway_to_record(...);
  *     switch (GATEWAY_NUMBER(answer)) ...
@@ -60,13 +66,14 @@ extern "C" {
 #define GATEWAY_NO_RECORD 4     /* the text is no record text, or its record breaks a rule of X.400's; 0 */
 #define GATEWAY_BAD_CARRIED 5   /* the record carries an RFC 822 address, and its value does not decode to one; 0 */
 #define GATEWAY_SHORT_ROOM 6    /* `out` is shorter than the text; 0 */
-#define GATEWAY_BAD_TABLE 7     /* the table is malformed; its first bad line, from 1, or 0 where it is over 65,536 bytes */
+#define GATEWAY_BAD_TABLE 7     /* the table is malformed; its first bad line, from 1, or 0 where it is over 65,536 bytes; of a
+                                   list its first bad entry, from 1 */
 #define GATEWAY_UNSOUND_TABLE 8 /* from the check alone: the table is unsound; the length of the witness's text */
 #define GATEWAY_DEEP_COMMENT 9  /* from gateway_mailbox alone: comments stand more than eight deep in each other; 0 */
 #define GATEWAY_NO_DATE 10      /* from the dates alone: the text is malformed, or the date impossible; 0 */
 
-/* Room for any answer under a table: no text that a function with a table writes at once, with the number, tab and LF of
-   gateway_route, is longer. */
+/* Room for any answer under a table: no text that a function with a table or a list writes at once, with the number, tab and LF
+   of gateway_route, is longer. */
 #define GATEWAY_ANSWER_ROOM 2563
 
 /* Room for any date, in either form. */
@@ -133,6 +140,51 @@ size_t gateway_shared_tail(const uint8_t *first, size_t first_len, const uint8_t
  */
 bool gateway_route(const uint8_t *table, size_t table_len, bool over, const uint8_t *input, size_t input_len, bool last,
                    uint8_t *out, size_t out_len, size_t *taken, size_t *written);
+
+/*
+ * An entry of a list: one row, as a table's line spells one. Its domain and its path stand in the list's text, `domain_len` bytes
+ * from `text + domain` on and `path_len` bytes from `text + path` on; the path is its fields, parted by single tabs.
+ *
+ * - Places may overlap and be shared: one domain can serve a D and an R entry, and one path all that begin it. The other bytes of
+ *   the text may be anything, so it may be a text that the program has for other reasons.
+ * - The first entry is the gateway's, and the only one of kind `G`. At most 512 follow it. The text may have any length: the
+ *   65,536 bytes bound the text of a table alone.
+ * - The count beside 7 is the number of the first bad entry, the gateway's being 1; it is never 0. An entry is bad where its kind
+ *   is none of the three, a place of it is not inside the text, or its domain or its path breaks a rule of a table's line; so is a
+ *   D entry with the domain of an earlier one, and an R entry with the path of an earlier one, letter case aside. An empty list is
+ *   bad at 1. Entry 514 is bad whatever it holds, unless an earlier one is; what follows it is not looked at.
+ * - A list gives the table that a text of the same rows gives.
+ *
+ *     static const char text[] = "gw.test" "XY\tP\tGATE" "tow.test" "XY\tP\tTOW";
+ *     static const struct gateway_row rows[] = {{'G', 0, 7, 7, 9}, {'D', 16, 8, 24, 8}, {'R', 16, 8, 24, 8}};
+ *     size_t answer = gateway_list_to_record((const uint8_t *)text, sizeof text - 1, rows, 3, ...);
+ */
+struct gateway_row {
+    size_t kind;       /* 'G', 'D' or 'R' */
+    size_t domain;     /* the domain's place in the text, */
+    size_t domain_len; /* and its length */
+    size_t path;       /* the path's place, */
+    size_t path_len;   /* and its length */
+};
+
+/* The library reads entries of 40 bytes. Where they have another size this array has a negative one, and the program does not
+   compile. */
+typedef char gateway_row_has_40_bytes[sizeof(struct gateway_row) == 40 ? 1 : -1];
+
+/* These four answer as gateway_to_record, gateway_to_address, gateway_check and gateway_route do, under the table that the list
+   spells. */
+size_t gateway_list_to_record(const uint8_t *text, size_t text_len, const struct gateway_row *rows, size_t row_count,
+                              const uint8_t *address, size_t address_len, uint8_t *out, size_t out_len);
+
+size_t gateway_list_to_address(const uint8_t *text, size_t text_len, const struct gateway_row *rows, size_t row_count,
+                               const uint8_t *record_text, size_t record_text_len, uint8_t *out, size_t out_len);
+
+size_t gateway_list_check(const uint8_t *text, size_t text_len, const struct gateway_row *rows, size_t row_count, uint8_t *out,
+                          size_t out_len);
+
+bool gateway_list_route(const uint8_t *text, size_t text_len, const struct gateway_row *rows, size_t row_count, bool over,
+                        const uint8_t *input, size_t input_len, bool last, uint8_t *out, size_t out_len, size_t *taken,
+                        size_t *written);
 
 /*
  * Dates, between X.400's UTCTime and RFC 822's date-time. No table has a part in this. What is read, letter case aside, and

@@ -4,6 +4,7 @@
 pub mod address;
 pub mod chars;
 pub mod dates;
+pub mod list;
 pub mod mailbox;
 pub mod mapping;
 pub mod record;

@@ -42,11 +42,11 @@ pub fn answer_line(table: &Result<Table, usize>, line: &[u8], out: &mut Vec<u8>)
     out.push(b'\n');
 }
 
-pub fn run(table: &[u8], input: &[u8]) -> Vec<u8> {
-    let table = Table::read(table);
+/// The answers to a run of lines.
+pub fn run(table: &Result<Table, usize>, input: &[u8]) -> Vec<u8> {
     let mut out = Vec::new();
     for line in input.split_inclusive(|&b| b == b'\n') {
-        answer_line(&table, line.strip_suffix(b"\n").unwrap_or(line), &mut out);
+        answer_line(table, line.strip_suffix(b"\n").unwrap_or(line), &mut out);
     }
     out
 }

@@ -1,4 +1,4 @@
-//! The table text: read with its first bad line, and looked up by ordered search.
+//! The table: its rows, read from a text with the first bad line, and looked up by ordered search.
 
 use std::collections::BTreeMap;
 
@@ -33,19 +33,42 @@ fn is_domain(domain: &[u8], limit: usize) -> bool {
     domain.len() <= limit && domain.split(|&b| b == b'.').all(is_domain_part)
 }
 
-/// The row that a line without its LF spells, and its tag.
-fn read_row(line: &[u8], domain_limit: usize) -> Option<(u8, Row)> {
-    let mut fields = line.split(|&b| b == b'\t');
+/// What a row is made of, not yet held against the rules: its tag, its domain, and its path, the fields parted by tabs.
+pub(crate) struct Spelt<'a> {
+    pub tag: u8,
+    pub domain: &'a [u8],
+    pub path: &'a [u8],
+}
+
+impl Spelt<'_> {
+    /// The row, if its domain and its path keep their rules.
+    fn row(&self, domain_limit: usize) -> Option<Row> {
+        let path: Path = self
+            .path
+            .split(|&b| b == b'\t')
+            .map(<[u8]>::to_vec)
+            .collect();
+        let good = is_domain(self.domain, domain_limit)
+            && (2..=LEVELS).contains(&path.len())
+            && path.iter().enumerate().all(|(level, value)| {
+                (level == 2 && value.is_empty()) || is_level_value(level, value)
+            });
+        good.then(|| Row {
+            domain: self.domain.to_vec(),
+            path,
+        })
+    }
+}
+
+/// What a line spells; None where its LF or a tab behind tag or domain is missing, or the tag is not one byte.
+fn spelt(line: &[u8]) -> Option<Spelt<'_>> {
+    let mut fields = line.strip_suffix(b"\n")?.splitn(3, |&b| b == b'\t');
     let [tag] = *fields.next()? else { return None };
-    let domain = fields.next()?.to_vec();
-    let path: Path = fields.map(<[u8]>::to_vec).collect();
-    let good = is_domain(&domain, domain_limit)
-        && (2..=LEVELS).contains(&path.len())
-        && path
-            .iter()
-            .enumerate()
-            .all(|(level, value)| (level == 2 && value.is_empty()) || is_level_value(level, value));
-    good.then_some((tag, Row { domain, path }))
+    Some(Spelt {
+        tag,
+        domain: fields.next()?,
+        path: fields.next()?,
+    })
 }
 
 impl Table {
@@ -54,34 +77,43 @@ impl Table {
         if text.len() > LIMIT {
             return Err(0);
         }
-        let mut lines = text.split_inclusive(|&b| b == b'\n');
-        let whole = |line: &'_ [u8]| line.strip_suffix(b"\n").map(<[u8]>::to_vec);
-        let first = lines.next().and_then(whole).ok_or(1usize)?;
-        let (b'G', gateway) = read_row(&first, 253).ok_or(1usize)? else {
-            return Err(1);
-        };
-        let mut table = Table {
+        Table::of_rows(text.split_inclusive(|&b| b == b'\n').map(spelt))
+    }
+
+    /// The table of these rows, the gateway's first, or the number of the first bad one, counted from 1. None stands for a row that is
+    /// bad whatever the others are.
+    pub(crate) fn of_rows<'a>(
+        mut rows: impl Iterator<Item = Option<Spelt<'a>>>,
+    ) -> Result<Table, usize> {
+        let first = rows.next().flatten();
+        let mut table = first.and_then(Table::of_gateway).ok_or(1usize)?;
+        for (before, row) in rows.enumerate() {
+            row.and_then(|row| table.add(row)).ok_or(before + 2)?;
+        }
+        Ok(table)
+    }
+
+    fn of_gateway(row: Spelt) -> Option<Table> {
+        let gateway = row.row(253).filter(|_| row.tag == b'G')?;
+        Some(Table {
             gateway,
             to_path: BTreeMap::new(),
             to_domain: BTreeMap::new(),
-        };
-        for (before, line) in lines.enumerate() {
-            let number = before + 2;
-            if before >= ROWS {
-                return Err(number);
-            }
-            let line = whole(line).ok_or(number)?;
-            let (tag, row) = read_row(&line, 40).ok_or(number)?;
-            let earlier = match tag {
-                b'D' => table.to_path.insert(row.domain.to_ascii_lowercase(), row),
-                b'R' => table.to_domain.insert(path_key(&row.path), row),
-                _ => return Err(number),
-            };
-            if earlier.is_some() {
-                return Err(number);
-            }
+        })
+    }
+
+    /// Takes one row more; None where it is bad, and the table then has no use.
+    fn add(&mut self, spelt: Spelt) -> Option<()> {
+        if self.to_path.len() + self.to_domain.len() == ROWS {
+            return None;
         }
-        Ok(table)
+        let row = spelt.row(40)?;
+        let earlier = match spelt.tag {
+            b'D' => self.to_path.insert(row.domain.to_ascii_lowercase(), row),
+            b'R' => self.to_domain.insert(path_key(&row.path), row),
+            _ => return None,
+        };
+        earlier.is_none().then_some(())
     }
 
     /// The D row with the longest domain that is a tail of this one by whole parts, and the text of the parts left over.

@@ -55,7 +55,7 @@ use Rattle.mailbox.proofs.Laws.AddressSame.{address-needless, address-same}
 use Rattle.mailbox.proofs.Laws.Again.{unnamed-text, written-again}
 use Rattle.mailbox.proofs.Laws.Bare.{written-meaning, written-shape}
 use Rattle.router.proofs.Laws.Calls.{call-moves, calls-whole}
-use Rattle.router_line.proofs.Laws.Line.{loaded-rules}
+use Rattle.table_load.proofs.Laws.Ready.{loaded-rules}
 use Rattle.gateway_mailbox.proofs.Laws.Mailboxes.{place-inside, result-inside}
 use Rattle.gateway_pack.proofs.Laws.Packed.{count-back, count-number, number-back, size-back}
 use Rattle.gateway_text.specs.Texts.{readOutcome, recordOfText, textOfRecord}

@@ -9,7 +9,8 @@ ghost use lib.ListN.{getD, length};
 ghost use Rattle.chars.specs.Write.{Wrote};
 ghost use Rattle.oraddr.specs.Attributes.{levels};
 ghost use Rattle.oraddr.specs.View.{view};
-ghost use Rattle.mapping.specs.Flat.{Flat, endsRoom, levelsRoom};
+ghost use Rattle.mapping.specs.Flat.{Flat, endsRoom};
+ghost use Rattle.table_lookup.specs.Looked.{levelsRoom};
 ghost use Rattle.oraddr.specs.Bounds.{levelCount, boundOf, O};
 
 // Room for eight levels, each at most as long as the longest.

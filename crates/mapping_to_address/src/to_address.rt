@@ -12,19 +12,20 @@ use mapping::answers::ToAddress;
 use mapping::answers::Written;
 use mapping::answers::place;
 use mapping::answers::refused;
+use oraddr::bounds::LEVELS;
 use oraddr::record::Record;
 use oraddr_canonical::canonical::is_canonical;
 use ortext_write::write::write_local;
 use table::line::Row;
 use table::load::Loaded;
 use table::load::TableRead;
-use table::load::load;
 use table::rows::ROWS_SIZE;
 use table::rows::row_at;
+use table_load::load::load;
 use table_lookup::extend::count_extension;
-use table_lookup::lookup::Found;
 use table_lookup::lookup::find_path;
-use table_settle::settle::count_levels;
+use table_lookup::lookup::match_path;
+use table_lookup::search::Found;
 ghost use mathlib.Core.Path.{_≡_};
 ghost use mathlib.Core.Bool.{true};
 ghost use Prim.Native.Nat.{_+_, _≤_};
@@ -33,12 +34,15 @@ ghost use Rattle.chars.specs.Write.{Wrote};
 ghost use Rattle.oraddr.specs.Attributes.{levels};
 ghost use Rattle.oraddr.specs.Canonical.{canonicalRecord};
 ghost use Rattle.oraddr.specs.View.{view};
-ghost use Rattle.table_lookup.specs.Looked.{Ended, levelTokens};
+ghost use Rattle.table_lookup.specs.Looked.{Ended, Laid, levelTokens};
 ghost use Rattle.table_lookup.specs.Lookup.{begins};
-ghost use Rattle.table.specs.Rows.{Inside, RowInside, rowAt};
+ghost use Rattle.table.specs.Rows.{RowInside, rowAt};
+ghost use Rattle.table.specs.declared.rows.Key.the-variants.{Path};
+ghost use Rattle.table_order.specs.Place.{Sorted};
+ghost use Rattle.table_load.specs.Load.{KeptBy, loadAnswer};
 ghost use Rattle.mapping.specs.Answers.{RoutedBy, RoutedUnder, Writing, addressRoom, outward, routedText, toldAddress};
 ghost use Rattle.mapping.specs.Flat.{Flat, fronts};
-ghost use Rattle.mapping.specs.ToAddress.{addressOf, recordToAddress, toAddress};
+ghost use Rattle.mapping.specs.ToAddress.{addressOf, recordToAddress, toAddress, toAddressBy};
 ghost use Rattle.oraddr.specs.Bounds.{levelCount};
 
 // Room for any local part, and for any address.
@@ -46,14 +50,14 @@ const LOCAL_ROOM: usize = 1792;
 
 pub const ADDRESS_ROOM: usize = 2560;
 
-// The route under a row whose path begins the levels.
+// The route under a row that was found: its path is matched level by level, which tells how many levels it has.
 fn route_under(text: &[u8], row: Row, flat: &[u8], ends: &[usize]) -> Route
     requires { ⌜ RowInside (now text) row ⌝ }
     requires { ⌜ Ended (now flat) (now ends) levelCount ⌝ }
     requires { ⌜ begins (rowAt (now text) row .path) (levelTokens (now flat) (now ends)) ≡ true ⌝ }
     ensures { λ r. ⌜ RoutedUnder (now (text .entry)) row (levelTokens (now (flat .entry)) (now (ends .entry))) r ⌝ }
 {
-    let own = count_levels(text, row.path, row.path_end);
+    let own = match_path(text, row.path, row.path_end, flat, ends, 0, LEVELS);
     let more = count_extension(flat, ends, own);
     Route { row, own, more }
 }
@@ -61,8 +65,8 @@ fn route_under(text: &[u8], row: Row, flat: &[u8], ends: &[usize]) -> Route
 // The route of a record by its levels: under its longest row, or with no level told at the gateway's domain.
 fn find_route(text: &[u8], to_domain: &[usize], table: Loaded, flat: &[u8], ends: &[usize]) -> Route
     requires { ⌜ RowInside (now text) (table .gateway) ⌝ }
-    requires { ⌜ Inside (now text) (now «to_domain») (table .«to_domain») ⌝ }
-    requires { ⌜ Ended (now flat) (now ends) levelCount ⌝ }
+    requires { ⌜ Sorted Path (now text) (now «to_domain») (table .«to_domain») ⌝ }
+    requires { ⌜ Laid (now flat) (now ends) ⌝ }
     ensures { λ r. ⌜ RoutedBy (now (text .entry)) (outward (now (text .entry)) (now («to_domain» .entry)) table) (levelTokens (now (flat .entry)) (now (ends .entry))) r ⌝ }
 {
     match find_path(text, to_domain, table.to_domain, flat, ends) {
@@ -137,7 +141,7 @@ pub fn write_address(
 ) -> Written
     requires { ⌜ length (now dst) ≡ addressRoom ⌝ }
     requires { ⌜ RowInside (now text) (table .gateway) ⌝ }
-    requires { ⌜ Inside (now text) (now «to_domain») (table .«to_domain») ⌝ }
+    requires { ⌜ Sorted Path (now text) (now «to_domain») (table .«to_domain») ⌝ }
     requires { ⌜ canonicalRecord rec ≡ true ⌝ }
     ensures { λ r. ⌜ Writing (addressOf (outward (now (text .entry)) (now («to_domain» .entry)) table) (view rec)) r (now (dst .exit)) ⌝ }
 {
@@ -162,7 +166,7 @@ pub fn map_record(
     out: &mut [u8],
 ) -> ToAddress
     requires { ⌜ RowInside (now text) (table .gateway) ⌝ }
-    requires { ⌜ Inside (now text) (now «to_domain») (table .«to_domain») ⌝ }
+    requires { ⌜ Sorted Path (now text) (now «to_domain») (table .«to_domain») ⌝ }
     ensures { λ r. ⌜ toldAddress r (now (out .exit)) ≡ toAddress (outward (now (text .entry)) (now («to_domain» .entry)) table) rec (now (out .entry)) ⌝ }
 {
     if !is_canonical(rec) {
@@ -175,14 +179,30 @@ pub fn map_record(
     }
 }
 
+// A record to an address in a lent buffer, under what a table was read as.
+pub fn record_under(
+    text: &[u8],
+    to_path: &[usize],
+    to_domain: &[usize],
+    read: TableRead,
+    rec: Record,
+    out: &mut [u8],
+) -> ToAddress
+    requires { ⌜ KeptBy (now text) (now «to_path») (now «to_domain») read ⌝ }
+    ensures { λ r. ⌜ toldAddress r (now (out .exit)) ≡ toAddressBy (loadAnswer (now (text .entry)) (now («to_path» .entry)) (now («to_domain» .entry)) read) rec (now (out .entry)) ⌝ }
+{
+    match read {
+        TableRead::Table(t) => map_record(text, to_domain, t, rec, out),
+        TableRead::Malformed(line) => refused(AddressAnswer::Malformed(line)),
+    }
+}
+
 // A record to an address in a lent buffer, under a table text.
 pub fn record_to_address(table: &[u8], rec: Record, out: &mut [u8]) -> ToAddress
     ensures { λ r. ⌜ toldAddress r (now (out .exit)) ≡ recordToAddress (now (table .entry)) rec (now (out .entry)) ⌝ }
 {
     let mut to_path = [0usize; ROWS_SIZE];
     let mut to_domain = [0usize; ROWS_SIZE];
-    match load(table, &mut to_path, &mut to_domain) {
-        TableRead::Table(t) => map_record(table, &to_domain, t, rec, out),
-        TableRead::Malformed(line) => refused(AddressAnswer::Malformed(line)),
-    }
+    let read = load(table, &mut to_path, &mut to_domain);
+    record_under(table, &to_path, &to_domain, read, rec, out)
 }

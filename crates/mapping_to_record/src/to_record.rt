@@ -18,8 +18,8 @@ use ortext_read::read::Reading;
 use ortext_read::read::read_local;
 use table::load::Loaded;
 use table::load::TableRead;
-use table::load::load;
 use table::rows::ROWS_SIZE;
+use table_load::load::load;
 use table_settle::settle::Settled;
 use table_settle::settle::Settlement;
 use table_settle::settle::settle;
@@ -30,16 +30,19 @@ ghost use Rattle.ortext_read.specs.Answers.{reading, readingResult, toldReading
 ghost use Rattle.ortext_read.specs.Apply.{unread};
 ghost use Rattle.mailaddr.specs.Answers.{addressAt, localAt};
 ghost use Rattle.mailaddr.specs.Shape.{longestAddress};
-ghost use Rattle.table.specs.Rows.{Inside, RowInside};
+ghost use Rattle.table.specs.Rows.{RowInside};
+ghost use Rattle.table.specs.declared.rows.Key.the-variants.{Domain};
+ghost use Rattle.table_order.specs.Place.{Sorted};
+ghost use Rattle.table_load.specs.Load.{KeptBy, loadAnswer};
 ghost use Rattle.table_settle.specs.Settle.{settlementAnswer};
 ghost use Rattle.mapping.specs.Answers.{inward, isGood, readSettled, readWell, recordParted, toldRecord};
 ghost use Rattle.mapping.specs.Carried.{settledUnder};
-ghost use Rattle.mapping.specs.ToRecord.{addressToRecord, toRecord};
+ghost use Rattle.mapping.specs.ToRecord.{addressToRecord, toRecord, toRecordBy};
 
 // Step 1: the levels that a domain settles; at the gateway's, none.
 fn settle_under(text: &[u8], to_path: &[usize], table: Loaded, domain: &[u8]) -> Settlement
     requires { ⌜ RowInside (now text) (table .gateway) ⌝ }
-    requires { ⌜ Inside (now text) (now «to_path») (table .«to_path») ⌝ }
+    requires { ⌜ Sorted Domain (now text) (now «to_path») (table .«to_path») ⌝ }
     ensures { λ r. ⌜ settlementAnswer r ≡ settledUnder (inward (now (text .entry)) (now («to_path» .entry)) table) (now (domain .entry)) ⌝ }
 {
     let gateway = table.gateway;
@@ -87,7 +90,7 @@ fn read_under(rec: Record, n: usize, s: &[u8], parted: Parted) -> Reading
 // Steps 1 to 4, for an address that is not carried whole for its domain or the characters of its local part.
 fn read_parted(text: &[u8], to_path: &[usize], table: Loaded, s: &[u8], parted: Parted) -> Reading
     requires { ⌜ RowInside (now text) (table .gateway) ⌝ }
-    requires { ⌜ Inside (now text) (now «to_path») (table .«to_path») ⌝ }
+    requires { ⌜ Sorted Domain (now text) (now «to_path») (table .«to_path») ⌝ }
     requires { ⌜ length (now s) ≤ longestAddress ⌝ }
     requires { ⌜ parted .at < length (now s) ⌝ }
     ensures { λ r. ⌜ toldReading r ≡ readingResult (readWell (inward (now (text .entry)) (now («to_path» .entry)) table) (addressAt (now (s .entry)) parted)) ⌝ }
@@ -125,7 +128,7 @@ fn is_good(done: Reading) -> bool
 // The record of an address that has the accepted shape, or the address carried whole.
 fn map_shaped(text: &[u8], to_path: &[usize], table: Loaded, s: &[u8], parted: Parted) -> ToRecord
     requires { ⌜ RowInside (now text) (table .gateway) ⌝ }
-    requires { ⌜ Inside (now text) (now «to_path») (table .«to_path») ⌝ }
+    requires { ⌜ Sorted Domain (now text) (now «to_path») (table .«to_path») ⌝ }
     requires { ⌜ length (now s) ≤ longestAddress ⌝ }
     requires { ⌜ parted .at < length (now s) ⌝ }
     ensures { λ r. ⌜ toldRecord r ≡ recordParted (inward (now (text .entry)) (now («to_path» .entry)) table) (now (s .entry)) parted ⌝ }
@@ -145,7 +148,7 @@ fn map_shaped(text: &[u8], to_path: &[usize], table: Loaded, s: &[u8], parted: P
 // An address to a record, under a table that was loaded.
 pub fn map_address(text: &[u8], to_path: &[usize], table: Loaded, s: &[u8]) -> ToRecord
     requires { ⌜ RowInside (now text) (table .gateway) ⌝ }
-    requires { ⌜ Inside (now text) (now «to_path») (table .«to_path») ⌝ }
+    requires { ⌜ Sorted Domain (now text) (now «to_path») (table .«to_path») ⌝ }
     ensures { λ r. ⌜ toldRecord r ≡ toRecord (inward (now (text .entry)) (now («to_path» .entry)) table) (now (s .entry)) ⌝ }
 {
     match read_shape(s) {
@@ -155,14 +158,29 @@ pub fn map_address(text: &[u8], to_path: &[usize], table: Loaded, s: &[u8]) -> T
     }
 }
 
+// An address to a record, under what a table was read as.
+pub fn address_under(
+    text: &[u8],
+    to_path: &[usize],
+    to_domain: &[usize],
+    read: TableRead,
+    s: &[u8],
+) -> ToRecord
+    requires { ⌜ KeptBy (now text) (now «to_path») (now «to_domain») read ⌝ }
+    ensures { λ r. ⌜ toldRecord r ≡ toRecordBy (loadAnswer (now (text .entry)) (now («to_path» .entry)) (now («to_domain» .entry)) read) (now (s .entry)) ⌝ }
+{
+    match read {
+        TableRead::Table(t) => map_address(text, to_path, t, s),
+        TableRead::Malformed(line) => refused(RecordAnswer::Malformed(line)),
+    }
+}
+
 // An address to a record, under a table text.
 pub fn address_to_record(table: &[u8], s: &[u8]) -> ToRecord
     ensures { λ r. ⌜ toldRecord r ≡ addressToRecord (now (table .entry)) (now (s .entry)) ⌝ }
 {
     let mut to_path = [0usize; ROWS_SIZE];
     let mut to_domain = [0usize; ROWS_SIZE];
-    match load(table, &mut to_path, &mut to_domain) {
-        TableRead::Table(t) => map_address(table, &to_path, t, s),
-        TableRead::Malformed(line) => refused(RecordAnswer::Malformed(line)),
-    }
+    let read = load(table, &mut to_path, &mut to_domain);
+    address_under(table, &to_path, &to_domain, read, s)
 }

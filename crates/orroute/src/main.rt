@@ -16,9 +16,8 @@ ghost use mathlib.Core.Path.{_≡_};
 ghost use Prim.Native.Nat.{_+_, _-_, _<_, _≤_};
 ghost use lib.ListN.{length, take, drop};
 ghost use lib.Seq.{paste};
-ghost use Rattle.table.specs.Load.{loadAnswer};
+ghost use Rattle.table_load.specs.Load.{Ready, loadAnswer};
 ghost use Rattle.router_line.specs.Line.{answerRoom, longestLine};
-ghost use Rattle.router_line.specs.Ready.{Ready};
 ghost use Rattle.orroute.specs.Run.{Advancing, Answering, Stepping, stopped};
 
 // A table of as many bytes as one may have, and one more, so that a longer one is seen to be.

@@ -10,11 +10,10 @@ use Rattle.chars.specs.Lists.{nonEmpty}
 use Rattle.chars.specs.Parts.{run, split}
 use Rattle.chars.specs.Write.{Wrote}
 use Rattle.table.specs.Lines.{TableOutcome, loadedFrom}
-use Rattle.table.specs.Load.{loadAnswer}
+use Rattle.table_load.specs.Load.{Ready, loadAnswer}
 use Rattle.table.specs.declared.load.TableRead.{TableRead}
 use Rattle.router_line.specs.Line.{lineAnswer, longestLine}
 use Rattle.router.specs.declared.run.Routed.{Routed}
-use Rattle.router_line.specs.Ready.{Ready}
 
 -- ---- the whole
 

@@ -4,17 +4,17 @@ use router_line::line::LONGEST_LINE;
 use router_line::line::Placing;
 use router_line::line::place_answer;
 use table::load::TableRead;
-use table::load::load;
+use table_load::load::load;
 ghost use mathlib.Core.Path.{_≡_};
 ghost use mathlib.Core.Bool.{false};
 ghost use Prim.Native.Nat.{_<_, _≤_};
 ghost use lib.Dec.{ltb};
 ghost use lib.ListN.{length, drop};
 ghost use Rattle.chars.specs.Parts.{run};
-ghost use Rattle.table.specs.Load.{loadAnswer, rowsSize};
+ghost use Rattle.table.specs.Rows.{rowsSize};
+ghost use Rattle.table_load.specs.Load.{Ready, loadAnswer};
 ghost use Rattle.router_line.specs.Line.{longestLine};
 ghost use Rattle.router.specs.Run.{Opened, Routing, RoutingFrom, RoutingRest};
-ghost use Rattle.router_line.specs.Ready.{Ready};
 
 // How far a call came in its input, and how much it wrote. `over` says that the input goes on within a line that is over the limit and has
 // been answered.

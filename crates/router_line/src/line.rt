@@ -24,12 +24,14 @@ ghost use Rattle.ortext_segments.specs.Keys.{keys};
 ghost use Rattle.ortext_write.specs.Write.{recordText};
 ghost use Rattle.table.specs.Formed.{Formed};
 ghost use Rattle.table.specs.Lines.{wellFormed};
-ghost use Rattle.table.specs.Load.{Kept, loadAnswer};
-ghost use Rattle.table.specs.Rows.{Inside, RowInside, tableAt};
+ghost use Rattle.table_load.specs.Load.{Kept, Ready, loadAnswer};
+ghost use Rattle.table.specs.Rows.{RowInside, tableAt};
+ghost use Rattle.table.specs.declared.rows.Key.the-variants.{Path};
+ghost use Rattle.table_order.specs.Place.{Sorted};
 ghost use Rattle.mapping.specs.Answers.{outward};
 ghost use Rattle.mapping.specs.ToRecord.{toRecord, toRecordBy};
 ghost use Rattle.router_line.specs.Line.{answerRoom, doneLine, lineAnswer, readLine, recordLine, refusedLine, taggedLine, textLine};
-ghost use Rattle.router_line.specs.Ready.{Placed, Ready};
+ghost use Rattle.router_line.specs.Ready.{Placed};
 
 // The longest line, and room for any answer.
 pub const LONGEST_LINE: usize = 4096;
@@ -132,7 +134,7 @@ fn send_record(
     dst: &mut [u8],
 ) -> usize
     requires { ⌜ RowInside (now text) (table .gateway) ⌝ }
-    requires { ⌜ Inside (now text) (now «to_domain») (table .«to_domain») ⌝ }
+    requires { ⌜ Sorted Path (now text) (now «to_domain») (table .«to_domain») ⌝ }
     requires { ⌜ length (now dst) ≡ answerRoom ⌝ }
     ensures { λ r. ⌜ Wrote (now (dst .entry)) 0 (readLine (outward (now (text .entry)) (now («to_domain» .entry)) table) (read rec)) r (now (dst .exit)) ⌝ }
 {
@@ -149,7 +151,7 @@ fn send_record(
 // A record text, under a table that was loaded.
 fn read_line(text: &[u8], to_domain: &[usize], table: Loaded, s: &[u8], dst: &mut [u8]) -> usize
     requires { ⌜ RowInside (now text) (table .gateway) ⌝ }
-    requires { ⌜ Inside (now text) (now «to_domain») (table .«to_domain») ⌝ }
+    requires { ⌜ Sorted Path (now text) (now «to_domain») (table .«to_domain») ⌝ }
     requires { ⌜ length (now dst) ≡ answerRoom ⌝ }
     ensures { λ r. ⌜ Wrote (now (dst .entry)) 0 (textLine (wellFormed (outward (now (text .entry)) (now («to_domain» .entry)) table)) (now (s .entry))) r (now (dst .exit)) ⌝ }
 {

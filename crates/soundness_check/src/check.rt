@@ -1,9 +1,11 @@
 // The check of a table: all candidates of all rows are judged, and the first that does not come back is the witness.
+use oraddr::bounds::LEVELS;
 use oraddr::record::Record;
 use soundness::answers::CheckAnswer;
 use soundness::answers::Checked;
 use soundness_fresh::fresh::level_span;
 use soundness_judge::judge::is_sound;
+use soundness_judge::judge::is_under;
 use soundness_judge::judge::judge_fresh;
 use soundness_judge::judge::judge_pair;
 use soundness_judge::judge::judge_plain;
@@ -11,14 +13,17 @@ use soundness_judge::judge::sound;
 use table::line::Row;
 use table::load::Loaded;
 use table::load::TableRead;
-use table::load::load;
 use table::rows::ROWS_SIZE;
 use table::rows::row_at;
+use table_load::load::load;
 use table_settle::settle::count_levels;
+ghost use Prim.Native.Nat.{_≤_};
 ghost use Rattle.table.specs.Lines.{loadedFrom};
+ghost use Rattle.table.specs.Rows.{Inside, RowInside};
+ghost use Rattle.table_load.specs.Load.{Ready, loadAnswer};
 ghost use Rattle.soundness.specs.Check.{AllFirst, AllSecond, AllUnder, Demand3, FirstBack, toldCheck};
 ghost use Rattle.soundness.specs.Sound.{Sound};
-ghost use Rattle.soundness_judge.specs.Judge.{Judges, JudgesRow, Usable, RowOf};
+ghost use Rattle.soundness_judge.specs.Judge.{Judges, JudgesRow, NextUnder, RowOf, Usable};
 
 // The first candidates of a row.
 fn judge_row(
@@ -32,7 +37,7 @@ fn judge_row(
     requires { ⌜ RowOf (now text) (now «to_path») (now «to_domain») table row ⌝ }
     ensures { λ r. ⌜ JudgesRow FirstBack (now (text .entry)) (now («to_path» .entry)) (now («to_domain» .entry)) table row r ⌝ }
 {
-    let k = count_levels(text, row.path, row.path_end);
+    let k = count_levels(text, row.path, row.path_end, LEVELS);
     if k == 2 {
         return judge_fresh(text, to_path, to_domain, table, row, k);
     }
@@ -68,6 +73,26 @@ fn judge_rows(text: &[u8], to_path: &[usize], to_domain: &[usize], table: Loaded
     sound()
 }
 
+// The first row to a path, from row i on, whose domain lies under a row's; n where none does. Most do not, so nothing is made for them.
+fn next_under(text: &[u8], to_path: &[usize], n: usize, row: Row, from: usize) -> usize
+    requires { ⌜ Inside (now text) (now «to_path») n ⌝ }
+    requires { ⌜ RowInside (now text) row ⌝ }
+    requires { ⌜ from ≤ n ⌝ }
+    ensures { λ r. ⌜ NextUnder (now (text .entry)) (now («to_path» .entry)) n row from r ⌝ }
+{
+    let mut i = from;
+    while i < n {
+        let target = row_at(to_path, i);
+        let c = target.domain;
+        let d = target.domain_end;
+        if is_under(text, row, &text[c..d]) {
+            return i;
+        }
+        i += 1;
+    }
+    i
+}
+
 // The second candidates of a row and the gateway, or a row to a path.
 fn judge_under(
     text: &[u8],
@@ -88,8 +113,9 @@ fn judge_under(
     if !is_sound(answer) {
         return first;
     }
-    let mut i = 0;
-    while i < table.to_path {
+    let n = table.to_path;
+    let mut i = next_under(text, to_path, n, row, 0);
+    while i < n {
         let target = row_at(to_path, i);
         let c = target.domain;
         let d = target.domain_end;
@@ -98,7 +124,7 @@ fn judge_under(
         if !is_sound(answer) {
             return done;
         }
-        i += 1;
+        i = next_under(text, to_path, n, row, i + 1);
     }
     sound()
 }
@@ -134,17 +160,26 @@ fn check_loaded(text: &[u8], to_path: &[usize], to_domain: &[usize], table: Load
     judge_pairs(text, to_path, to_domain, table)
 }
 
+// The check of what a table was read as.
+pub fn check_under(text: &[u8], to_path: &[usize], to_domain: &[usize], read: TableRead) -> Checked
+    requires { ⌜ Ready (now text) (now «to_path») (now «to_domain») read ⌝ }
+    ensures { λ r. ⌜ Demand3 (loadAnswer (now (text .entry)) (now («to_path» .entry)) (now («to_domain» .entry)) read) (toldCheck r) ⌝ }
+{
+    match read {
+        TableRead::Table(t) => check_loaded(text, to_path, to_domain, t),
+        TableRead::Malformed(line) => Checked {
+            answer: CheckAnswer::Malformed(line),
+            record: Record::empty(),
+        },
+    }
+}
+
 // The check of a table text.
 pub fn check(table: &[u8]) -> Checked
     ensures { λ r. ⌜ Demand3 (loadedFrom (now (table .entry))) (toldCheck r) ⌝ }
 {
     let mut to_path = [0usize; ROWS_SIZE];
     let mut to_domain = [0usize; ROWS_SIZE];
-    match load(table, &mut to_path, &mut to_domain) {
-        TableRead::Table(t) => check_loaded(table, &to_path, &to_domain, t),
-        TableRead::Malformed(line) => Checked {
-            answer: CheckAnswer::Malformed(line),
-            record: Record::empty(),
-        },
-    }
+    let read = load(table, &mut to_path, &mut to_domain);
+    check_under(table, &to_path, &to_domain, read)
 }

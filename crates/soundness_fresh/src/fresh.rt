@@ -16,7 +16,7 @@ ghost use Prim.Native.Nat.{_+_, _-_, _<_, _≤_};
 ghost use lib.ListN.{getD, length, set, take, drop};
 ghost use Rattle.chars.specs.Case.{foldText};
 ghost use Rattle.mailaddr.specs.Domain.{partsOf};
-ghost use Rattle.table.specs.Load.{Kept};
+ghost use Rattle.table_load.specs.Load.{Kept};
 ghost use Rattle.table.specs.Rows.{Inside, fieldsAt, rowAt, rowsAt, tableAt};
 ghost use Rattle.soundness.specs.Folded.{domainRow, foldTokens, pathRow, tokenTable};
 ghost use Rattle.soundness.specs.Labels.{firstFree, fresh, labelLimit, marked, labelNumber, oddLabel};

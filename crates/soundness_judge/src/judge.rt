@@ -29,12 +29,12 @@ ghost use Rattle.mailaddr.specs.Domain.{isDomain};
 ghost use Rattle.oraddr.specs.Canonical.{canonicalRecord};
 ghost use Rattle.oraddr.specs.View.{emptyRecord, view};
 ghost use Rattle.mapping.specs.ToAddress.{isCarrier};
-ghost use Rattle.table.specs.Load.{Kept};
-ghost use Rattle.table.specs.Rows.{rowAt, tableAt};
+ghost use Rattle.table_load.specs.Load.{Kept};
+ghost use Rattle.table.specs.Rows.{RowInside, rowAt, tableAt};
 ghost use Rattle.soundness.specs.Check.{SecondBack, isSound};
 ghost use Rattle.soundness.specs.Sound.{backBy, comesBack};
 ghost use Rattle.soundness.specs.declared.answers.CheckAnswer.the-variants.{Sound as SoundAnswer};
-ghost use Rattle.soundness_judge.specs.Judge.{FreshBack, Judges, JudgesRow, PlainBack, Usable, RowOf};
+ghost use Rattle.soundness_judge.specs.Judge.{FreshBack, Judges, JudgesRow, PlainBack, RowOf, Usable, isUnder};
 
 // Whether an address is mapped back to the record.
 fn is_back(
@@ -173,6 +173,19 @@ pub fn judge_fresh(
     )
 }
 
+// Whether a domain lies under a row's: the row's is a tail of it by whole parts, and there is more in front.
+pub fn is_under(text: &[u8], row: Row, domain: &[u8]) -> bool
+    requires { ⌜ RowInside (now text) row ⌝ }
+    ensures { λ r. ⌜ r ≡ isUnder (rowAt (now (text .entry)) row .domain) (now (domain .entry)) ⌝ }
+{
+    let a = row.domain;
+    let b = row.domain_end;
+    if domain.len() <= b - a {
+        return false;
+    }
+    is_tail(text, a, b, domain)
+}
+
 // The second candidate of a row and a domain, which is none where the domain does not lie under the row's.
 pub fn judge_pair(
     text: &[u8],
@@ -187,12 +200,7 @@ pub fn judge_pair(
     requires { ⌜ isDomain (now domain) ≡ true ⌝ }
     ensures { λ r. ⌜ JudgesRow (λ t q. SecondBack t q (now (domain .entry))) (now (text .entry)) (now («to_path» .entry)) (now («to_domain» .entry)) table row r ⌝ }
 {
-    let a = row.domain;
-    let b = row.domain_end;
-    if domain.len() <= b - a {
-        return sound();
-    }
-    if !is_tail(text, a, b, domain) {
+    if !is_under(text, row, domain) {
         return sound();
     }
     let done = settle_row(text, row, domain);

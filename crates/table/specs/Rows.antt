@@ -8,6 +8,7 @@ use lib.Dec.{leb}
 use lib.ListN.{length, getD, take, drop}
 use lib.Seq.{sets}
 use Rattle.chars.specs.Parts.{split}
+use Rattle.oraddr.specs.Bounds.{levelCount}
 use Rattle.table.specs.Table.{Row, Table, Token}
 use Rattle.table.specs.Lines as lines
 use Rattle.table.specs.declared.line as line
@@ -43,13 +44,22 @@ RowReading s from end tag most (line.RowRead.the-variants.Row p) = RowFound s fr
 RowReading s from end tag most line.RowRead.the-variants.Bad =
     lines.hasTag tag (split 9 (between s from end)) && lines.isRow most (lines.rowOf (split 9 (between s from end))) ≡ false
 
--- The places of a row are in order, and inside the text; its domain is no longer than any may be.
+-- The places of a row are in order, and inside the text, wherever they stand in it; its domain is no longer than any may be, and its path
+-- has no more fields than there are levels.
 pub record RowInside (s : List ℕ) (p : line.Row.Row) : Type 0 where
   pub domain : p .domain ≤ p .«domain_end»
-  pub apart : p .«domain_end» ≤ p .path
+  pub within-domain : p .«domain_end» ≤ length s
   pub path : p .path ≤ p .«path_end»
   pub within : p .«path_end» ≤ length s
   pub short : p .«domain_end» - p .domain ≤ lines.longestGatewayDomain
+  pub levels : length (fieldsAt s (p .path) (p .«path_end»)) ≤ levelCount
+
+-- the numbers of each list of rows: four for each of 512, and behind them the order, one for each
+abbrev pub orderStart : ℕ
+orderStart = 2048
+
+abbrev pub rowsSize : ℕ
+rowsSize = 2560
 
 -- the places of row i in a list of numbers, four for each row
 unfoldable pub placesAt : List ℕ → ℕ → line.Row.Row
@@ -86,3 +96,19 @@ unfoldable pub tableAt : List ℕ → List ℕ → List ℕ → load.Loaded.Load
 unfolding rowAt rowsAt
 tableAt s ds rs t =
     record { gateway = rowAt s (t .gateway); toPath = rowsAt s ds (t .«to_path»); toDomain = rowsAt s rs (t .«to_domain») }
+
+-- ---- lines by their places
+
+-- the line from a place up to another, where its LF stands
+unfoldable pub lineAt : List ℕ → ℕ → ℕ → lines.Line
+unfolding between
+lineAt s from end = record { text = between s from end; ended = true }
+
+-- the lines from a place on, where a line starts or the text ends
+unfoldable pub linesFrom : List ℕ → ℕ → List lines.Line
+unfolding lines.linesOf split
+linesFrom s at = lines.linesOf (split 10 (drop at s))
+
+-- the table of a gateway with no rows
+unfoldable pub bareTable : Row → Table
+bareTable r = record { gateway = r; toPath = []; toDomain = [] }

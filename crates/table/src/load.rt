@@ -1,21 +1,5 @@
-// A table text read: its rows, or the number of its first bad line.
-use crate::line::LONGEST_GATEWAY_DOMAIN;
-use crate::line::LONGEST_ROW_DOMAIN;
+// What reading a table comes to.
 use crate::line::Row;
-use crate::line::RowRead;
-use crate::line::read_row;
-use crate::rows::Key;
-use crate::rows::MOST_ROWS;
-use crate::rows::add_if_new;
-use chars::parts::part_end;
-ghost use mathlib.Core.Path.{_≡_};
-ghost use Prim.Native.Nat.{_≤_};
-ghost use lib.ListN.{length};
-ghost use Rattle.table.specs.Lines.{loadedFrom, readRows};
-ghost use Rattle.table.specs.Load.{Adding, Kept, Loading, addedIf, bareTable, linesFrom, rowsSize};
-ghost use Rattle.table.specs.Rows.{RowInside, rowAt, tableAt};
-
-pub const LONGEST_TABLE: usize = 65536;
 
 // A well-formed table: the gateway's row, and how many rows go each way.
 pub struct Loaded {
@@ -24,124 +8,8 @@ pub struct Loaded {
     pub to_domain: usize,
 }
 
-// A table, or the number of its first bad line: document 01's number 7.
+// A table, or the number of its first bad line, or of a list's first bad entry: document 01's number 7.
 pub enum TableRead {
     Table(Loaded),
     Malformed(usize),
-}
-
-pub enum RowAdded {
-    Added(Loaded),
-    Bad,
-}
-
-// The answer for a row that is new, or is not.
-fn added(is_new: bool, table: Loaded) -> RowAdded
-    ensures { λ r. ⌜ r ≡ addedIf «is_new» table ⌝ }
-{
-    if is_new {
-        RowAdded::Added(table)
-    } else {
-        RowAdded::Bad
-    }
-}
-
-// Adds the row of the line that starts at `from` and ends at `end` to the rows of its tag.
-fn add_row(
-    text: &[u8],
-    to_path: &mut [usize],
-    to_domain: &mut [usize],
-    table: Loaded,
-    from: usize,
-    end: usize,
-) -> RowAdded
-    requires { ⌜ length (now «to_path») ≡ rowsSize ⌝ }
-    requires { ⌜ length (now «to_domain») ≡ rowsSize ⌝ }
-    requires { ⌜ Kept (now text) (now «to_path») (now «to_domain») table ⌝ }
-    requires { ⌜ from ≤ end ⌝ }
-    requires { ⌜ end ≤ length (now text) ⌝ }
-    ensures { λ r. ⌜ Adding (now (text .entry))
-        (tableAt (now (text .entry)) (now («to_path» .entry)) (now («to_domain» .entry)) table) from end r (now («to_path» .exit)) (now («to_domain» .exit)) ⌝ }
-{
-    let d = table.to_path;
-    let r = table.to_domain;
-    if MOST_ROWS <= d + r {
-        return RowAdded::Bad;
-    }
-    match read_row(text, from, end, b'D', LONGEST_ROW_DOMAIN) {
-        RowRead::Row(row) => {
-            let mut next = table;
-            next.to_path = d + 1;
-            return added(add_if_new(text, to_path, d, row, Key::Domain), next);
-        }
-        RowRead::Bad => {}
-    }
-    match read_row(text, from, end, b'R', LONGEST_ROW_DOMAIN) {
-        RowRead::Row(row) => {
-            let mut next = table;
-            next.to_domain = r + 1;
-            added(add_if_new(text, to_domain, r, row, Key::Path), next)
-        }
-        RowRead::Bad => RowAdded::Bad,
-    }
-}
-
-// Reads the rows behind the gateway's line.
-fn load_rows(
-    text: &[u8],
-    to_path: &mut [usize],
-    to_domain: &mut [usize],
-    gateway: Row,
-    from: usize,
-) -> TableRead
-    requires { ⌜ length (now «to_path») ≡ rowsSize ⌝ }
-    requires { ⌜ length (now «to_domain») ≡ rowsSize ⌝ }
-    requires { ⌜ RowInside (now text) gateway ⌝ }
-    requires { ⌜ from ≤ length (now text) ⌝ }
-    ensures { λ r. ⌜ Loading (now (text .entry))
-        (readRows 2 (bareTable (rowAt (now (text .entry)) gateway)) (linesFrom (now (text .entry)) from)) r (now («to_path» .exit)) (now («to_domain» .exit)) ⌝ }
-{
-    let mut table = Loaded {
-        gateway,
-        to_path: 0,
-        to_domain: 0,
-    };
-    let mut at = from;
-    let mut line = 2;
-    while at < text.len() {
-        let end = part_end(text, at, b'\n');
-        if end == text.len() {
-            return TableRead::Malformed(line);
-        }
-        match add_row(text, to_path, to_domain, table, at, end) {
-            RowAdded::Added(next) => {
-                table = next;
-            }
-            RowAdded::Bad => {
-                return TableRead::Malformed(line);
-            }
-        }
-        at = end + 1;
-        line += 1;
-    }
-    TableRead::Table(table)
-}
-
-// Reads a table text. The rows go to the two lent lists, each of which has room for all.
-pub fn load(text: &[u8], to_path: &mut [usize], to_domain: &mut [usize]) -> TableRead
-    requires { ⌜ length (now «to_path») ≡ rowsSize ⌝ }
-    requires { ⌜ length (now «to_domain») ≡ rowsSize ⌝ }
-    ensures { λ r. ⌜ Loading (now (text .entry)) (loadedFrom (now (text .entry))) r (now («to_path» .exit)) (now («to_domain» .exit)) ⌝ }
-{
-    if LONGEST_TABLE < text.len() {
-        return TableRead::Malformed(0);
-    }
-    let end = part_end(text, 0, b'\n');
-    if end == text.len() {
-        return TableRead::Malformed(1);
-    }
-    match read_row(text, 0, end, b'G', LONGEST_GATEWAY_DOMAIN) {
-        RowRead::Row(gateway) => load_rows(text, to_path, to_domain, gateway, end + 1),
-        RowRead::Bad => TableRead::Malformed(1),
-    }
 }

@@ -6,7 +6,6 @@
 //   T NAME        load the table of that name: prints 7 and the first bad line, or 0 and how many rows go each way
 //   D DOMAIN      the number of the row with the longest domain that is a tail of it, or none
 //   R LEVELS      the number of the row with the longest path that begins these eight levels, or none
-mod input;
 mod lookups;
 mod print;
 
@@ -19,8 +18,8 @@ use lookups::run_queries;
 use print::print_malformed;
 use print::print_rows;
 use table::load::TableRead;
-use table::load::load;
 use table::rows::ROWS_SIZE;
+use table_load::load::load;
 ghost use Prim.Native.Nat.{_<_, _≤_};
 ghost use lib.ListN.{length};
 

@@ -1,7 +1,7 @@
 // What the program prints.
 use cases::print::say;
 use cases::print::say_number;
-use table_lookup::lookup::Found;
+use table_lookup::search::Found;
 
 pub(crate) fn print_malformed(line: usize) {
     say(b"7 ");

@@ -1,6 +1,9 @@
 pub mod Begins
 pub mod Extension
+pub mod Front
+pub mod Laid
+pub mod Look
 pub mod Lookup
 pub mod Paths
-pub mod Tags
+pub mod Side
 pub mod Tails

@@ -2,4 +2,4 @@ pub mod Begins
 pub mod Levels
 pub mod Looked
 pub mod Lookup
-pub mod Tags
+pub mod Search

@@ -1,18 +1,20 @@
 -- What the two look-ups are given and what they answer, by the places that the code keeps.
 -- Assumes nothing.
 use mathlib.Core.Path.{_≡_}
-use mathlib.Core.Bool.{Bool, true, false}
-use mathlib.Core.List.{List, [], _∷_}
+use mathlib.Core.Bool.{Bool, true, false, not}
+use mathlib.Core.List.{List, [], _∷_, _++_}
 use mathlib.Core.Option.{Option, none, some}
 use Prim.Native.Nat.{ℕ, zero, suc, _+_, _≤_, _<_}
+use lib.Dec.{eqb}
 use lib.ListN.{length, getD}
+use Rattle.chars.specs.Lists.{all}
 use Rattle.table.specs.Table.{Row, Token}
 use Rattle.table.specs.Rows.{between, placesAt, rowAt, rowsAt}
 use Rattle.table_lookup.specs.Lookup.{RowKey, look}
 use Rattle.table_lookup.specs.declared.level.LevelKind.{LevelKind}
 use Rattle.table_lookup.specs.declared.level.LevelKind.the-variants.{Named, Omitted, NotReached}
-use Rattle.table_lookup.specs.declared.lookup.Found.{Found}
-use Rattle.table_lookup.specs.declared.lookup.Found.the-variants.{At, Nowhere}
+use Rattle.table_lookup.specs.declared.search.Found.{Found}
+use Rattle.table_lookup.specs.declared.search.Found.the-variants.{At, Nowhere}
 use Rattle.oraddr.specs.Bounds.{levelCount}
 
 -- a level is reached, and where it is named it stands in the text
@@ -57,3 +59,18 @@ Below n (At i) = i < n
 pub record Looked (key : RowKey) (s ns : List ℕ) (n : ℕ) (q : List Token) (r : Found) : Type 0 where
   pub row : look key (rowsAt s ns n) q ≡ foundRow s ns r
   pub below : Below n r
+
+-- levels, each with a tab before it: as a path has them, but for the first tab
+unfoldable pub tabbed : List Token → List ℕ
+tabbed [] = []
+tabbed (t ∷ ts) = 9 ∷ (t ++ tabbed ts)
+
+-- room for the eight levels, each at most as long as the longest
+abbrev pub levelsRoom : ℕ
+levelsRoom = 512
+
+-- Levels that can be looked up as a path: they are there, have room, and no tab is in any.
+pub record Laid (s ends : List ℕ) : Type 0 where
+  pub ended : Ended s ends levelCount
+  pub most : getD ends levelCount 0 ≤ levelsRoom
+  pub clear : all (λ t. all (λ x. not (eqb x 9)) t) (levelTokens s ends) ≡ true

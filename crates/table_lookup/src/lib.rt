@@ -1,5 +1,5 @@
-// Looking rows up: by a domain, and by the levels of a record (document 01, step 1 and "Record to address").
+// The rows of a table looked up (document 01, step 1 of "Address to record" and the row part of "Record to address").
 pub mod extend;
 pub mod level;
 pub mod lookup;
-pub mod tag;
+pub mod search;

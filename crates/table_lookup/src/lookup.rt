@@ -1,31 +1,29 @@
 // The two look-ups: the row with the longest domain that is a tail of a domain by whole parts, and the row with the longest path
-// that begins a record's levels. Of rows with one key the last is found, as the definition has it.
+// that begins a record's levels; and whether one row's domain is a tail, or its path begins the levels, level by level.
 use crate::level::LevelKind;
 use crate::level::level_at;
-use crate::tag::fill_tags;
-use crate::tag::tag_of;
+use crate::search::Found;
+use crate::search::find;
 use chars::case::same_text;
+use chars::write::put;
 use oraddr::bounds::LEVELS;
-use table::mark::has_mark;
-use table::rows::row_at;
+use table::rows::Key;
 ghost use mathlib.Core.Path.{_≡_};
-ghost use mathlib.Core.Bool.{_&&_, cond};
-ghost use Prim.Native.Nat.{_+_, _-_, _≤_};
-ghost use lib.Dec.{leb};
+ghost use mathlib.Core.Bool.{cond};
+ghost use Prim.Native.Nat.{_+_, _≤_};
 ghost use lib.ListN.{length, getD};
 ghost use Rattle.chars.specs.Case.{sameText};
+ghost use Rattle.chars.specs.Write.{Wrote};
 ghost use Rattle.mailaddr.specs.Domain.{partsOf};
+ghost use Rattle.table.specs.Rows.{between, fieldsAt};
+ghost use Rattle.table.specs.declared.rows.Key.the-variants.{Domain, Path};
+ghost use Rattle.table_order.specs.Place.{Sorted};
 ghost use Rattle.table_lookup.specs.Levels.{levelToken};
 ghost use Rattle.table_lookup.specs.Lookup.{begins, byDomain, byPath};
-ghost use Rattle.table_lookup.specs.Looked.{Ended, KindInside, Looked, isReached, tokensFrom, levelTokens};
-ghost use Rattle.table.specs.Rows.{Inside, between, fieldsAt};
-ghost use Rattle.table_lookup.specs.Tags.{Tagged};
-ghost use Rattle.oraddr.specs.Bounds.{levelCount};
+ghost use Rattle.table_lookup.specs.Looked.{Ended, KindInside, Laid, Looked, isReached, levelTokens, tabbed, tokensFrom};
 
-pub enum Found {
-    At(usize),
-    Nowhere,
-}
+// Room for a record's levels as a path, a tab before each.
+const QUERY_ROOM: usize = 520;
 
 // Whether a row's domain, from `a` to `b` in the table text, is a tail of a domain by whole parts.
 pub fn is_tail(text: &[u8], a: usize, b: usize, domain: &[u8]) -> bool
@@ -46,40 +44,50 @@ pub fn is_tail(text: &[u8], a: usize, b: usize, domain: &[u8]) -> bool
     same_text(&domain[from..], &text[a..b])
 }
 
-// The same, for a row's domain of at least `longest` bytes.
-fn is_longer_tail(text: &[u8], a: usize, b: usize, domain: &[u8], longest: usize) -> bool
-    requires { ⌜ (a ≤ b) × (b ≤ length (now text)) ⌝ }
-    ensures { λ r. ⌜ r ≡ (leb longest (b - a) && begins (partsOf (between (now (text .entry)) a b)) (partsOf (now (domain .entry)))) ⌝ }
-{
-    if b - a < longest {
-        return false;
-    }
-    is_tail(text, a, b, domain)
-}
-
 // The row of the first n whose domain is the longest tail of a domain.
 pub fn find_domain(text: &[u8], rows: &[usize], n: usize, domain: &[u8]) -> Found
-    requires { ⌜ Inside (now text) (now rows) n ⌝ }
+    requires { ⌜ Sorted Domain (now text) (now rows) n ⌝ }
     ensures { λ r. ⌜ Looked byDomain (now (text .entry)) (now (rows .entry)) n (partsOf (now (domain .entry))) r ⌝ }
 {
-    let mut found = Found::Nowhere;
-    let mut longest = 0;
-    let mut i = 0;
-    while i < n {
-        let row = row_at(rows, i);
-        let a = row.domain;
-        let b = row.domain_end;
-        if is_longer_tail(text, a, b, domain, longest) {
-            found = Found::At(i);
-            longest = b - a;
-        }
-        i += 1;
+    find(text, rows, n, Key::Domain, domain)
+}
+
+// Writes `left` levels from level k on, each with a tab before it; returns where the next goes.
+fn lay_out(
+    query: &mut [u8],
+    at: usize,
+    levels: &[u8],
+    ends: &[usize],
+    k: usize,
+    left: usize,
+) -> usize
+    requires { ⌜ Ended (now levels) (now ends) (k + left) ⌝ }
+    requires { ⌜ at + length (tabbed (tokensFrom (now levels) (now ends) k left)) ≤ length (now query) ⌝ }
+    ensures { λ r. ⌜ Wrote (now (query .entry)) at (tabbed (tokensFrom (now (levels .entry)) (now (ends .entry)) k left)) r (now (query .exit)) ⌝ }
+{
+    if left == 0 {
+        return at;
     }
-    found
+    let a = ends[k];
+    let b = ends[k + 1];
+    query[at] = b'\t';
+    let next = put(query, at + 1, &levels[a..b]);
+    lay_out(query, next, levels, ends, k + 1, left - 1)
+}
+
+// The row of the first n whose path is the longest that begins a record's levels: they are laid out as a path, which is looked up.
+pub fn find_path(text: &[u8], rows: &[usize], n: usize, levels: &[u8], ends: &[usize]) -> Found
+    requires { ⌜ Sorted Path (now text) (now rows) n ⌝ }
+    requires { ⌜ Laid (now levels) (now ends) ⌝ }
+    ensures { λ r. ⌜ Looked byPath (now (text .entry)) (now (rows .entry)) n (levelTokens (now (levels .entry)) (now (ends .entry))) r ⌝ }
+{
+    let mut query = [0u8; QUERY_ROOM];
+    let end = lay_out(&mut query, 0, levels, ends, 0, LEVELS);
+    find(text, rows, n, Key::Path, &query[1..end])
 }
 
 // Whether a path has this level at all.
-fn is_reached(kind: LevelKind) -> bool
+pub fn is_reached(kind: LevelKind) -> bool
     ensures { λ r. ⌜ r ≡ isReached kind ⌝ }
 {
     match kind {
@@ -133,47 +141,4 @@ pub fn match_path(
         return 0;
     }
     match_path(text, level.next, end, levels, ends, k + 1, left - 1)
-}
-
-// The same for a path against all the record's levels, with the tags of the paths that the first of them make: a path that has none of
-// these tags begins no levels, and most rows are passed over by that alone.
-fn match_tagged(
-    text: &[u8],
-    at: usize,
-    end: usize,
-    levels: &[u8],
-    ends: &[usize],
-    tags: &[usize],
-) -> usize
-    requires { ⌜ (at ≤ end) × (end ≤ length (now text)) ⌝ }
-    requires { ⌜ Ended (now levels) (now ends) levelCount × Tagged (now levels) (now ends) (now tags) ⌝ }
-    ensures { λ r. ⌜ r ≡ cond (begins (fieldsAt (now (text .entry)) at end) (tokensFrom (now (levels .entry)) (now (ends .entry)) 0 levelCount)) (0 + length (fieldsAt (now (text .entry)) at end)) 0 ⌝ }
-{
-    let tag = tag_of(&text[at..end]);
-    if !has_mark(tags, tag) {
-        return 0;
-    }
-    match_path(text, at, end, levels, ends, 0, LEVELS)
-}
-
-// The row of the first n whose path is the longest that begins a record's levels.
-pub fn find_path(text: &[u8], rows: &[usize], n: usize, levels: &[u8], ends: &[usize]) -> Found
-    requires { ⌜ Inside (now text) (now rows) n × Ended (now levels) (now ends) levelCount ⌝ }
-    ensures { λ r. ⌜ Looked byPath (now (text .entry)) (now (rows .entry)) n (levelTokens (now (levels .entry)) (now (ends .entry))) r ⌝ }
-{
-    let mut tags = [0usize; LEVELS];
-    fill_tags(&mut tags, levels, ends);
-    let mut found = Found::Nowhere;
-    let mut longest = 1;
-    let mut i = 0;
-    while i < n {
-        let row = row_at(rows, i);
-        let k = match_tagged(text, row.path, row.path_end, levels, ends, &tags);
-        if longest <= k {
-            found = Found::At(i);
-            longest = k;
-        }
-        i += 1;
-    }
-    found
 }

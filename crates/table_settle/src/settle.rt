@@ -10,8 +10,9 @@ use table::line::Row;
 use table::rows::row_at;
 use table_lookup::level::LevelKind;
 use table_lookup::level::level_at;
-use table_lookup::lookup::Found;
 use table_lookup::lookup::find_domain;
+use table_lookup::lookup::is_reached;
+use table_lookup::search::Found;
 ghost use mathlib.Core.Path.{_≡_};
 ghost use mathlib.Core.List.{_++_};
 ghost use mathlib.Core.Option.{some};
@@ -20,7 +21,9 @@ ghost use lib.ListN.{length};
 ghost use Rattle.oraddr.specs.Add.{told};
 ghost use Rattle.table_lookup.specs.Levels.{levelToken};
 ghost use Rattle.table_lookup.specs.Looked.{KindInside};
-ghost use Rattle.table.specs.Rows.{Inside, RowInside, fieldsAt, rowAt, rowsAt};
+ghost use Rattle.table.specs.Rows.{RowInside, fieldsAt, rowAt, rowsAt};
+ghost use Rattle.table.specs.declared.rows.Key.the-variants.{Domain};
+ghost use Rattle.table_order.specs.Place.{Sorted};
 ghost use Rattle.table_settle.specs.Settle.{addLevel, addLevels, begun, leftParts, settledAs, settledFrom, settlementAnswer, settling};
 ghost use Rattle.oraddr.specs.Bounds.{levelCount};
 
@@ -38,19 +41,18 @@ pub struct Settlement {
     pub record: Record,
 }
 
-// How many levels a path has, which starts at `at` and ends at `end`.
-pub fn count_levels(text: &[u8], at: usize, end: usize) -> usize
+// How many levels a path has, which starts at `at` and ends at `end`, of the `left` that it can have.
+pub fn count_levels(text: &[u8], at: usize, end: usize, left: usize) -> usize
     requires { ⌜ end ≤ length (now text) ⌝ }
+    requires { ⌜ (length (fieldsAt (now text) at end) ≤ left) × (left ≤ levelCount) ⌝ }
     ensures { λ r. ⌜ r ≡ length (fieldsAt (now (text .entry)) at end) ⌝ }
 {
-    let mut from = at;
-    let mut k = 0;
-    while from <= end {
-        let level = level_at(text, from, end);
-        from = level.next;
-        k += 1;
+    let level = level_at(text, at, end);
+    let kind = level.kind;
+    if !is_reached(kind) {
+        return 0;
     }
-    k
+    1 + count_levels(text, level.next, end, left - 1)
 }
 
 // How many parts a domain has before the part that starts at a place.
@@ -102,30 +104,27 @@ fn add_kind(rec: Record, k: usize, text: &[u8], kind: LevelKind) -> Addition
     }
 }
 
-// Adds the levels of a path, which starts at `at` and ends at `end`.
-pub fn add_path(rec: Record, text: &[u8], at: usize, end: usize) -> Addition
+// Adds the levels of a path, which starts at `at` and ends at `end`, from level k on: one after the other, until no level is left.
+pub fn add_path(rec: Record, text: &[u8], at: usize, end: usize, k: usize, left: usize) -> Addition
     requires { ⌜ end ≤ length (now text) ⌝ }
-    ensures { λ r. ⌜ told r ≡ addLevels 0 (fieldsAt (now (text .entry)) at end) (begun rec) ⌝ }
+    requires { ⌜ length (fieldsAt (now text) at end) ≤ left ⌝ }
+    requires { ⌜ k + left ≡ levelCount ⌝ }
+    ensures { λ r. ⌜ told r ≡ addLevels k (fieldsAt (now (text .entry)) at end) (begun rec) ⌝ }
 {
-    let mut next = rec;
-    let mut from = at;
-    let mut k = 0;
-    while from <= end {
-        let level = level_at(text, from, end);
-        let kind = level.kind;
-        let after = level.next;
-        let done = add_kind(next, k, text, kind);
-        next = done.record;
-        let answer = done.answer;
-        if let Added::Refused = answer {
-            return done;
-        }
-        from = after;
-        k += 1;
+    let level = level_at(text, at, end);
+    let kind = level.kind;
+    if !is_reached(kind) {
+        return Addition {
+            record: rec,
+            answer: Added::Done,
+        };
     }
-    Addition {
-        record: next,
-        answer: Added::Done,
+    let done = add_kind(rec, k, text, kind);
+    let answer = done.answer;
+    let next = done.record;
+    match answer {
+        Added::Done => add_path(next, text, level.next, end, k + 1, left - 1),
+        Added::Refused => done,
     }
 }
 
@@ -203,23 +202,20 @@ pub fn settle_row(text: &[u8], row: Row, domain: &[u8]) -> Settlement
 {
     let at = row.path;
     let end = row.path_end;
-    let k = count_levels(text, at, end);
-    if LEVELS < k {
-        return without_record(Settled::PastUnits);
-    }
+    let k = count_levels(text, at, end, LEVELS);
     let own = row.domain_end - row.domain;
     let start = domain.len() - own;
     let n = count_left(domain, start);
     if LEVELS - k < n {
         return without_record(Settled::PastUnits);
     }
-    let done = add_path(Record::empty(), text, at, end);
+    let done = add_path(Record::empty(), text, at, end, 0, LEVELS);
     settle_front(done, domain, start, k, n)
 }
 
 // The levels that a domain settles, by the first n rows.
 pub fn settle(text: &[u8], rows: &[usize], n: usize, domain: &[u8]) -> Settlement
-    requires { ⌜ Inside (now text) (now rows) n ⌝ }
+    requires { ⌜ Sorted Domain (now text) (now rows) n ⌝ }
     ensures { λ r. ⌜ settlementAnswer r ≡ settling (rowsAt (now (text .entry)) (now (rows .entry)) n) (now (domain .entry)) ⌝ }
 {
     match find_domain(text, rows, n, domain) {

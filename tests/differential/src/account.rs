@@ -21,6 +21,9 @@ const ALL_CLAUSES: [Clause; CLAUSES] = [
     Clause::NotCanonical,
 ];
 
+/// The account of calls whose list is handed over as a text, too.
+pub const BESIDE_TEXT: &str = "list beside its text";
+
 /// Every answer that can come up.
 const ANSWERS: &[(&str, &[&str])] = &[
     ("to_record", &["0", "1", "2", "3", "6", "7", "7, line 0"]),
@@ -155,6 +158,67 @@ const ANSWERS: &[(&str, &[&str])] = &[
         ],
     ),
     ("restrict, then unrestrict", &["came back"]),
+    ("list_to_record", &["0", "1", "2", "3", "6", "7"]),
+    ("list_to_address", &["0", "4", "5", "6", "7"]),
+    ("list_check", &["0", "7", "8", "8, no room"]),
+    (
+        "list_route",
+        &[
+            "all is taken",
+            "waits for more",
+            "next does not fit",
+            "over",
+        ],
+    ),
+    ("list_route's lines", &["0", "1", "2", "3", "4", "5", "7"]),
+    (
+        BESIDE_TEXT,
+        &[
+            "list_to_record",
+            "list_to_address",
+            "list_check",
+            "list_route",
+            "malformed",
+        ],
+    ),
+    (
+        "list taken",
+        &[
+            "the gateway's entry alone",
+            "513 entries",
+            "shared places",
+            "overlapping places",
+            "up to the text's end",
+            "text over 65,536 bytes",
+            "spells over 65,536 bytes",
+        ],
+    ),
+    (
+        "list refused",
+        &[
+            "empty list",
+            "first entry not G",
+            "G further on",
+            "other kind",
+            "kind over a byte",
+            "place past the end",
+            "sum that wraps",
+            "nothing, at the end",
+            "long domain",
+            "tab in a domain",
+            "LF in a domain or a path",
+            "other domain",
+            "other path",
+            "repeated domain",
+            "repeated path",
+            "entry 514",
+            "more than 513 entries, an earlier one bad",
+        ],
+    ),
+    (
+        "bad entry",
+        &["the first", "in the middle", "the last", "514 of more"],
+    ),
 ];
 
 pub struct Account {

@@ -48,20 +48,24 @@ fn mapped(
         Err((number, line)) => (*number, *line, &b""[..]),
     };
     let mut lent = Lent::new(&mut round.random, room);
-    let found = call(&round.sample.text, text, lent.room());
+    let found = call(round.given(), text, lent.room());
     account.calls += 1;
     account.count_number(function, number, count);
-    if found == number + 16 * count && lent.holds(written) {
-        return Ok(());
+    if found != number + 16 * count || !lent.holds(written) {
+        return Err(format!(
+            "{function}, room {room}: wanted {number} with {count}, found {} with {}; differs: {}\n{}\ntext {}",
+            found % 16,
+            found / 16,
+            lent.first_difference(written),
+            round.shown(),
+            hex(text)
+        ));
     }
-    Err(format!(
-        "{function}, room {room}: wanted {number} with {count}, found {} with {}; differs: {}\ntable {}\ntext {}",
-        found % 16,
-        found / 16,
-        lent.first_difference(written),
-        hex(&round.sample.text),
-        hex(text)
-    ))
+    round
+        .beside_text(account, function, found, &lent, |table, out| {
+            call(table, text, out)
+        })
+        .map_err(|why| format!("{why}\ntext {}", hex(text)))
 }
 
 fn settled_by(table: &Table, address: &[u8]) -> &'static str {
@@ -89,14 +93,8 @@ pub fn to_record(round: &mut Round, account: &mut Account) -> Compared {
                 .map_err(|number| (usize::from(number), 0))
         }
     };
-    mapped(
-        round,
-        account,
-        "to_record",
-        library::to_record,
-        &text,
-        wanted,
-    )
+    let function = round.name("to_record", "list_to_record");
+    mapped(round, account, function, library::to_record, &text, wanted)
 }
 
 fn sent_as(table: &Table, record: &Record, address: &[u8]) -> &'static str {
@@ -121,14 +119,8 @@ pub fn to_address(round: &mut Round, account: &mut Account) -> Compared {
             })
             .map_err(|number| (usize::from(number), 0)),
     };
-    mapped(
-        round,
-        account,
-        "to_address",
-        library::to_address,
-        &text,
-        wanted,
-    )
+    let function = round.name("to_address", "list_to_address");
+    mapped(round, account, function, library::to_address, &text, wanted)
 }
 
 /// Whether this is the text of a canonical record, no carrier, that does not come back.
@@ -166,21 +158,36 @@ fn all_come_back(
 }
 
 pub fn check(round: &mut Round, account: &mut Account) -> Compared {
+    let function = round.name("check", "list_check");
     let room = *round.random.pick(&[0, 1, 18, 26, 40, 2563, 2563, 2563]);
     let mut lent = Lent::new(&mut round.random, room);
-    let text = &round.sample.text;
-    let found = library::check(text, lent.room());
+    let found = library::check(round.given(), lent.room());
     account.calls += 1;
-    let (number, count) = (found % 16, found / 16);
-    let failed = |why: &str| {
-        Err(format!(
-            "check, room {room}: found {number} with {count}: {why}\ntable {}",
-            hex(text)
-        ))
-    };
+    judged(round, account, function, room, found, &lent).map_err(|why| {
+        format!(
+            "{function}, room {room}: found {} with {}: {why}\n{}",
+            found % 16,
+            found / 16,
+            round.shown()
+        )
+    })?;
+    round.beside_text(account, function, found, &lent, library::check)
+}
+
+/// What the rules have against an answer of the check, and what it left in a buffer of this room.
+fn judged(
+    round: &mut Round,
+    account: &mut Account,
+    function: &'static str,
+    room: usize,
+    found: usize,
+    lent: &Lent,
+) -> Compared {
+    let failed = |why: &str| Err(why.to_string());
+    let count = found / 16;
     let table = match &round.table {
         Err(line) => {
-            account.count_number("check", 7, *line);
+            account.count_number(function, 7, *line);
             if found != 7 + 16 * line || !lent.holds(b"") {
                 return failed(&format!("wanted 7 with {line} and the buffer as before"));
             }
@@ -188,15 +195,14 @@ pub fn check(round: &mut Round, account: &mut Account) -> Compared {
         }
         Ok(table) => table,
     };
-    match number {
+    match found % 16 {
         0 if count != 0 || !lent.holds(b"") => failed("wanted no count and the buffer as before"),
         0 => {
-            account.count("check", "0");
+            account.count(function, "0");
             all_come_back(&mut round.random, &round.sample, table, account)
-                .or_else(|why| failed(&why))
         }
         8 if count <= room => {
-            account.count("check", "8");
+            account.count(function, "8");
             let witness = lent.front(count).to_vec();
             if !lent.holds(&witness) {
                 return failed("wanted the buffer behind the text as before");
@@ -207,12 +213,12 @@ pub fn check(round: &mut Round, account: &mut Account) -> Compared {
             Ok(())
         }
         8 => {
-            account.count("check", "8, no room");
+            account.count(function, "8, no room");
             if !lent.holds(b"") {
                 return failed("wanted the buffer as before, since the text does not fit");
             }
             let mut lent = Lent::new(&mut round.random, count);
-            let again = library::check(text, lent.room());
+            let again = library::check(round.given(), lent.room());
             account.calls += 1;
             if again != found || !is_witness(table, lent.front(count)) {
                 return failed("with just the room that it asked for, no witness");

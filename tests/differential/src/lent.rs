@@ -21,6 +21,19 @@ impl Lent {
         }
     }
 
+    /// A buffer that is filled as this one was.
+    pub fn afresh(&self) -> Lent {
+        Lent {
+            bytes: self.before.clone(),
+            before: self.before.clone(),
+        }
+    }
+
+    /// Whether two buffers that were filled alike hold the same, fences too.
+    pub fn is_as(&self, other: &Lent) -> bool {
+        self.bytes == other.bytes
+    }
+
     pub fn room(&mut self) -> &mut [u8] {
         let end = self.bytes.len() - FENCE;
         &mut self.bytes[FENCE..end]

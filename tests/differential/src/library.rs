@@ -1,6 +1,8 @@
 //! The exports of the compiled library, as functions of slices. docs/include/gateway.h says what they do.
 
 mod exports {
+    use super::Row;
+
     extern "C" {
         pub fn gateway_to_record(
             table: *const u8,
@@ -33,6 +35,48 @@ mod exports {
         pub fn gateway_route(
             table: *const u8,
             table_len: usize,
+            over: bool,
+            input: *const u8,
+            input_len: usize,
+            last: bool,
+            out: *mut u8,
+            out_len: usize,
+            taken: *mut usize,
+            written: *mut usize,
+        ) -> bool;
+        pub fn gateway_list_to_record(
+            text: *const u8,
+            text_len: usize,
+            rows: *const Row,
+            row_count: usize,
+            address: *const u8,
+            address_len: usize,
+            out: *mut u8,
+            out_len: usize,
+        ) -> usize;
+        pub fn gateway_list_to_address(
+            text: *const u8,
+            text_len: usize,
+            rows: *const Row,
+            row_count: usize,
+            record_text: *const u8,
+            record_text_len: usize,
+            out: *mut u8,
+            out_len: usize,
+        ) -> usize;
+        pub fn gateway_list_check(
+            text: *const u8,
+            text_len: usize,
+            rows: *const Row,
+            row_count: usize,
+            out: *mut u8,
+            out_len: usize,
+        ) -> usize;
+        pub fn gateway_list_route(
+            text: *const u8,
+            text_len: usize,
+            rows: *const Row,
+            row_count: usize,
             over: bool,
             input: *const u8,
             input_len: usize,
@@ -76,40 +120,100 @@ mod exports {
     }
 }
 
+/// An entry of a list, as the library reads it.
+#[repr(C)]
+#[derive(Clone, Copy, Debug, PartialEq, Eq)]
+pub struct Row {
+    pub kind: usize,
+    pub domain: usize,
+    pub domain_len: usize,
+    pub path: usize,
+    pub path_len: usize,
+}
+
+/// A table as a call gets it: its text, or a text and a list of rows over it.
+#[derive(Clone, Copy)]
+pub enum Given<'a> {
+    Text(&'a [u8]),
+    List(&'a [u8], &'a [Row]),
+}
+
 /// A mapping: under a table, of a text, into a buffer.
-pub type Mapping = fn(&[u8], &[u8], &mut [u8]) -> usize;
+pub type Mapping = fn(Given, &[u8], &mut [u8]) -> usize;
 
 /// One text made of another, without a table: of a text, into a buffer.
 pub type Conversion = fn(&[u8], &mut [u8]) -> usize;
 
-pub fn to_record(table: &[u8], text: &[u8], out: &mut [u8]) -> usize {
-    unsafe {
-        exports::gateway_to_record(
-            table.as_ptr(),
-            table.len(),
-            text.as_ptr(),
-            text.len(),
-            out.as_mut_ptr(),
-            out.len(),
-        )
+pub fn to_record(table: Given, address: &[u8], out: &mut [u8]) -> usize {
+    match table {
+        Given::Text(table) => unsafe {
+            exports::gateway_to_record(
+                table.as_ptr(),
+                table.len(),
+                address.as_ptr(),
+                address.len(),
+                out.as_mut_ptr(),
+                out.len(),
+            )
+        },
+        Given::List(text, rows) => unsafe {
+            exports::gateway_list_to_record(
+                text.as_ptr(),
+                text.len(),
+                rows.as_ptr(),
+                rows.len(),
+                address.as_ptr(),
+                address.len(),
+                out.as_mut_ptr(),
+                out.len(),
+            )
+        },
     }
 }
 
-pub fn to_address(table: &[u8], text: &[u8], out: &mut [u8]) -> usize {
-    unsafe {
-        exports::gateway_to_address(
-            table.as_ptr(),
-            table.len(),
-            text.as_ptr(),
-            text.len(),
-            out.as_mut_ptr(),
-            out.len(),
-        )
+pub fn to_address(table: Given, record_text: &[u8], out: &mut [u8]) -> usize {
+    match table {
+        Given::Text(table) => unsafe {
+            exports::gateway_to_address(
+                table.as_ptr(),
+                table.len(),
+                record_text.as_ptr(),
+                record_text.len(),
+                out.as_mut_ptr(),
+                out.len(),
+            )
+        },
+        Given::List(text, rows) => unsafe {
+            exports::gateway_list_to_address(
+                text.as_ptr(),
+                text.len(),
+                rows.as_ptr(),
+                rows.len(),
+                record_text.as_ptr(),
+                record_text.len(),
+                out.as_mut_ptr(),
+                out.len(),
+            )
+        },
     }
 }
 
-pub fn check(table: &[u8], out: &mut [u8]) -> usize {
-    unsafe { exports::gateway_check(table.as_ptr(), table.len(), out.as_mut_ptr(), out.len()) }
+pub fn check(table: Given, out: &mut [u8]) -> usize {
+    match table {
+        Given::Text(table) => unsafe {
+            exports::gateway_check(table.as_ptr(), table.len(), out.as_mut_ptr(), out.len())
+        },
+        Given::List(text, rows) => unsafe {
+            exports::gateway_list_check(
+                text.as_ptr(),
+                text.len(),
+                rows.as_ptr(),
+                rows.len(),
+                out.as_mut_ptr(),
+                out.len(),
+            )
+        },
+    }
 }
 
 pub fn shared_tail(first: &[u8], second: &[u8]) -> usize {
@@ -120,7 +224,7 @@ pub fn shared_tail(first: &[u8], second: &[u8]) -> usize {
 
 /// How far a call came: the state, what it took and what it wrote.
 pub fn route(
-    table: &[u8],
+    table: Given,
     over: bool,
     input: &[u8],
     last: bool,
@@ -128,19 +232,37 @@ pub fn route(
 ) -> (bool, usize, usize) {
     // Values that no call can leave, so that one that is not stored is seen.
     let (mut taken, mut written) = (usize::MAX, usize::MAX);
-    let over = unsafe {
-        exports::gateway_route(
-            table.as_ptr(),
-            table.len(),
-            over,
-            input.as_ptr(),
-            input.len(),
-            last,
-            out.as_mut_ptr(),
-            out.len(),
-            &mut taken,
-            &mut written,
-        )
+    let over = match table {
+        Given::Text(table) => unsafe {
+            exports::gateway_route(
+                table.as_ptr(),
+                table.len(),
+                over,
+                input.as_ptr(),
+                input.len(),
+                last,
+                out.as_mut_ptr(),
+                out.len(),
+                &mut taken,
+                &mut written,
+            )
+        },
+        Given::List(text, rows) => unsafe {
+            exports::gateway_list_route(
+                text.as_ptr(),
+                text.len(),
+                rows.as_ptr(),
+                rows.len(),
+                over,
+                input.as_ptr(),
+                input.len(),
+                last,
+                out.as_mut_ptr(),
+                out.len(),
+                &mut taken,
+                &mut written,
+            )
+        },
     };
     (over, taken, written)
 }

@@ -12,6 +12,8 @@ mod damage;
 mod dates;
 mod lent;
 mod library;
+mod list_account;
+mod lists;
 mod mailbox_lines;
 mod mailboxes;
 mod random;
@@ -69,7 +71,13 @@ fn options() -> Option<Options> {
 
 fn one_round(round: &mut Round, account: &mut Account) -> Compared {
     account.tables += 1;
+    list_account::count(round, account);
     for _ in 0..CALLS_OF_A_ROUND {
+        if round.list.is_some() && round.random.one_in(8) {
+            round.hand_over_list();
+            account.tables += 1;
+            list_account::count(round, account);
+        }
         match round.random.below(24) {
             0..=6 => calls::to_record(round, account)?,
             7..=14 => calls::to_address(round, account)?,

@@ -118,13 +118,15 @@ fn room_for(round: &mut Round, over: bool, input: &[u8], last: bool) -> usize {
     }
 }
 
-fn count_lines(account: &mut Account, answers: &[u8]) {
+fn count_lines(account: &mut Account, lines: &'static str, answers: &[u8]) {
     for answer in answers.split_inclusive(|&b| b == b'\n') {
-        account.count_number("route's lines", usize::from(answer[0] - b'0'), 1);
+        account.count_number(lines, usize::from(answer[0] - b'0'), 1);
     }
 }
 
 pub fn route(round: &mut Round, account: &mut Account) -> Compared {
+    let function = round.name("route", "list_route");
+    let of_lines = round.name("route's lines", "list_route's lines");
     let all = lines(round);
     let (mut arrived, mut taken_in_all, mut over, mut lacked) = (0, 0, false, false);
     let mut out = Vec::new();
@@ -144,22 +146,27 @@ pub fn route(round: &mut Round, account: &mut Account) -> Compared {
         };
         let (next_over, taken, answers) = owed(&round.table, over, input, last, room);
         let mut lent = Lent::new(&mut round.random, room);
-        let found = library::route(&round.sample.text, over, input, last, lent.room());
+        let found = library::route(round.given(), over, input, last, lent.room());
         account.calls += 1;
         if found != (next_over, taken, answers.len()) || !lent.holds(&answers) {
             return Err(format!(
-                "route, over {over}, last {last}, room {room}: wanted over, taken and written {:?}, found {found:?}; differs: {}\ntable {}\ninput {}",
+                "{function}, over {over}, last {last}, room {room}: wanted over, taken and written {:?}, found {found:?}; differs: {}\n{}\ninput {}",
                 (next_over, taken, answers.len()),
                 lent.first_difference(&answers),
-                hex(&round.sample.text),
+                round.shown(),
                 hex(input)
             ));
         }
+        round
+            .beside_text(account, function, found, &lent, |table, out| {
+                library::route(table, over, input, last, out)
+            })
+            .map_err(|why| format!("{why}\ninput {}", hex(input)))?;
         let rest = &input[taken..];
         lacked =
             !next_over && !rest.is_empty() && (last || rest.len() > LIMIT || rest.contains(&b'\n'));
         account.count(
-            "route",
+            function,
             match (next_over, lacked, rest.is_empty()) {
                 (true, _, _) => "over",
                 (_, true, _) => "next does not fit",
@@ -167,7 +174,7 @@ pub fn route(round: &mut Round, account: &mut Account) -> Compared {
                 _ => "waits for more",
             },
         );
-        count_lines(account, &answers);
+        count_lines(account, of_lines, &answers);
         out.extend_from_slice(&answers);
         over = next_over;
         taken_in_all += taken;
@@ -175,12 +182,12 @@ pub fn route(round: &mut Round, account: &mut Account) -> Compared {
             break;
         }
     }
-    if out == run(&round.sample.text, &all) {
+    if out == run(&round.table, &all) {
         return Ok(());
     }
     Err(format!(
-        "route: the answers to all parts are not the answer to the whole\ntable {}\ninput {}",
-        hex(&round.sample.text),
+        "{function}: the answers to all parts are not the answer to the whole\n{}\ninput {}",
+        round.shown(),
         hex(&all)
     ))
 }

@@ -15,7 +15,7 @@ pub struct Sample {
     pub labels: Vec<Vec<u8>>,
 }
 
-const ROWS: usize = 512;
+pub const ROWS: usize = 512;
 const FEW: &[&[u8]] = &[b"a", b"b", b"c"];
 const WORDS: &[&[u8]] = &[
     b"tow", b"test", b"harbour", b"pilots", b"brack", b"x-1", b"7", b"survey", b"q", b"TOW",
@@ -234,8 +234,8 @@ fn row_of_length(number: usize, length: usize) -> Row {
     row
 }
 
-/// A line with a domain or a path at its bound or just past it.
-fn edge_line(random: &mut Random) -> Vec<u8> {
+/// A row with a domain or a path at its bound or just past it, and a tag.
+pub fn edge_row(random: &mut Random) -> (u8, Row) {
     const BOUNDS: [usize; 6] = [16, 16, 64, 32, 32, 32];
     let mut row = Row {
         domain: b"edge.test".to_vec(),
@@ -261,7 +261,7 @@ fn edge_line(random: &mut Random) -> Vec<u8> {
                 .to_vec()
         }
     }
-    line(*random.pick(b"DRDRGd"), &row)
+    (*random.pick(b"DRDRGd"), row)
 }
 
 pub fn joined(label: &[u8], domain: &[u8]) -> Vec<u8> {
@@ -309,8 +309,11 @@ pub fn table(random: &mut Random) -> Sample {
         50..=79 => sample.text = damaged(random, &sample.text),
         80 => sample.text = noise(random, 400),
         81 => sample.text.clear(),
-        82 => sample.text.resize(LIMIT + random.between(1, 400), b'\n'),
-        83..=97 => sample.text.extend(edge_line(random)),
+        82 | 83 => sample.text.resize(LIMIT + random.between(1, 400), b'\n'),
+        84..=97 => {
+            let (tag, row) = edge_row(random);
+            sample.text.extend(line(tag, &row));
+        }
         // the G line's own bounds
         98..=99 => {
             let longer = [&b"G\tx"[..], &sample.text[2..]].concat();

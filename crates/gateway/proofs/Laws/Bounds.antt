@@ -23,8 +23,8 @@ use Rattle.mapping.specs.Results.{malformedAddress, malformedRecord, mapped, pl
 use Rattle.mapping.specs.ToAddress.{addressOf, placedIn, recordToAddress, toAddress, toAddressBy}
 use Rattle.mapping.specs.ToRecord.{addressToRecord, recordBy, toRecord, toRecordBy}
 use Rattle.mapping.proofs.Laws.Short.{address-short}
-use Rattle.router_line.specs.Ready.{FormedBy}
-use Rattle.router_line.proofs.Laws.Line.{loaded-rules}
+use Rattle.table_load.specs.Load.{FormedBy}
+use Rattle.table_load.proofs.Laws.Ready.{loaded-rules}
 use Rattle.mailaddr.specs.Answers.{Shaping, noShape, shaped, shaping, tooLong}
 use Rattle.mailaddr.specs.Code.{coded}
 use Rattle.gateway_pack.specs.Packed.{mostCount}

@@ -29,9 +29,9 @@ use Rattle.oraddr.specs.declared.record.Record.{Record}
 use Rattle.mailaddr.specs.Domain.{inFront}
 use Rattle.table.specs.Table.{Token}
 use Rattle.table.specs.Rows.{between}
-use Rattle.table_lookup.specs.Looked.{Ended, tokensFrom, levelTokens}
+use Rattle.table_lookup.specs.Looked.{Ended, levelTokens, levelsRoom, tokensFrom}
 use Rattle.table.proofs.Laws.Fields.{between-length, region}
-use Rattle.mapping.specs.Flat.{Flat, fronts, levelsRoom}
+use Rattle.mapping.specs.Flat.{Flat, fronts}
 use Rattle.mapping.specs.ToAddress.{extended}
 
 -- ---- the levels by where they end

@@ -24,21 +24,20 @@ use Rattle.ortext_write.proofs.Laws.Write.{local-bound, text-class}
 use Rattle.mailaddr.specs.Shape.{addressText, quotedLocal}
 use Rattle.mailaddr.proofs.Laws.Shape.{length-quoted-quotable, quoted-atoms}
 use Rattle.table.specs.Table.{Row, Table, Token}
-use Rattle.table.specs.Lines.{TableOutcome, loadedFrom}
-use Rattle.table.specs.Load.{Loading, loadAnswer}
+use Rattle.table_load.specs.Load.{loadAnswer}
 use Rattle.table_lookup.specs.Lookup.{byPath, extension, look}
 use Rattle.table_lookup.specs.Looked.{Looked, foundRow, tokensFrom, levelTokens}
 use Rattle.table.specs.Rows.{RowInside, between, placesAt, rowAt, rowsAt, tableAt}
 use Rattle.table.specs.declared.line as line
 use Rattle.table.specs.declared.load as load
 use Rattle.table.specs.declared.load.TableRead.the-variants.{Malformed as TableMalformed, Table as TableFound}
-use Rattle.table_lookup.specs.declared.lookup.Found.the-variants.{At, Nowhere}
+use Rattle.table_lookup.specs.declared.search.Found.the-variants.{At, Nowhere}
 use Rattle.table.proofs.Laws.Fields.{between-length}
 use Rattle.table_lookup.proofs.Laws.Lookup.{extension-front}
 use Rattle.mapping.specs.Answers.{Fronted, Routed, addressBadLine, addressNumber, addressRoom, outward, routedText, toldAddress}
 use Rattle.mapping.specs.Flat.{Flat, fronts}
 use Rattle.mapping.specs.Results.{malformedAddress, placed, refusedAddress}
-use Rattle.mapping.specs.ToAddress.{Plan, addressOf, carriedAddress, extended, isCarrier, isCarrierAt, placedIn, plan, planBy, planUnder, planned, recordToAddress, toAddress, toAddressBy}
+use Rattle.mapping.specs.ToAddress.{Plan, addressOf, carriedAddress, extended, isCarrier, isCarrierAt, placedIn, plan, planBy, planUnder, planned, toAddress, toAddressBy}
 use Rattle.mapping.specs.declared.answers.AddressAnswer.the-variants.{Malformed, NoAddress, NotCanonical}
 use Rattle.mapping.specs.declared.answers.Route.{Route}
 use Rattle.mapping.proofs.Laws.Flat.{extended-fronts, length-fronts}
@@ -94,7 +93,7 @@ length-local r h n =
     (λ e. omega (arith, length-quoted-quotable u (text-class (view r) (canonical-view r h) n) e))
 
 pub length-row : (s : List ℕ) (row : line.Row.Row) → RowInside s row → length (between s (row .domain) (row .«domain_end»)) ≤ 253
-length-row s row h = omega (arith, between-length s (row .domain) (row .«domain_end») (h .domain) (omega (arith, h .apart, h .path, h .within)), h .short)
+length-row s row h = omega (arith, between-length s (row .domain) (row .«domain_end») (h .domain) (h .within-domain), h .short)
 
 -- the whole of it: less than the room for any address
 pub length-routed : (r : Record) (s flat ends : List ℕ) (route : Route) → canonicalRecord r ≡ true → Flat (levels (view r)) flat ends → RowInside s (route .row)
@@ -167,12 +166,12 @@ module _ (s ds rs : List ℕ) (t : load.Loaded.Loaded) where
   unfolding toAddress
   address-table r old = ap (λ (o : Option (List ℕ)). cond (canonicalRecord r) (placedIn old o) (refusedAddress 4 old)) (address-under (view r))
 
--- under a table text that was read
+-- under what a table was read as
 module _ (s ds rs : List ℕ) (r : Record) (old : List ℕ) where
-  pub answer-table : (t : load.Loaded.Loaded) → Loading s (loadedFrom s) (TableFound t) ds rs → toAddress (outward s rs t) r old ≡ recordToAddress s r old
-  unfolding recordToAddress toAddressBy loadAnswer
-  answer-table t h = address-table s ds rs t r old ∙ ap (λ (l : TableOutcome). toAddressBy l r old) (h .answers)
+  pub answer-table : (t : load.Loaded.Loaded) → toAddress (outward s rs t) r old ≡ toAddressBy (loadAnswer s ds rs (TableFound t)) r old
+  unfolding toAddressBy loadAnswer
+  answer-table t = address-table s ds rs t r old
 
-  pub answer-malformed : (n : ℕ) → Loading s (loadedFrom s) (TableMalformed n) ds rs → toldAddress (record { answer = Malformed n; size = 0 }) old ≡ recordToAddress s r old
-  unfolding toldAddress addressNumber addressBadLine recordToAddress toAddressBy malformedAddress loadAnswer
-  answer-malformed n h = ap (λ (l : TableOutcome). toAddressBy l r old) (h .answers)
+  pub answer-malformed : (n : ℕ) → toldAddress (record { answer = Malformed n; size = 0 }) old ≡ toAddressBy (loadAnswer s ds rs (TableMalformed n)) r old
+  unfolding toldAddress addressNumber addressBadLine toAddressBy malformedAddress loadAnswer
+  answer-malformed n = refl

@@ -13,7 +13,7 @@ use Rattle.chars.proofs.Laws.Lists.{by-test, true-not-false}
 use Rattle.chars.proofs.Laws.Write.{wrote-length, wrote-taken}
 use Rattle.table.specs.Lines.{TableOutcome}
 use Rattle.router_line.specs.Line.{answerRoom, longestLine}
-use Rattle.router_line.specs.Ready.{FormedBy}
+use Rattle.table_load.specs.Load.{FormedBy}
 use Rattle.router.specs.Run.{Routing, Waits, due}
 use Rattle.router.specs.declared.run.Routed.{Routed}
 use Rattle.router.proofs.Laws.Calls.{call-moves}

@@ -3,8 +3,8 @@
 use mathlib.Core.Path.{sym}
 use native.Mathlib.Omega.{arith}
 use lib.Seq.{length-take-le}
-use Rattle.table.specs.Load.{loadAnswer}
-use Rattle.router_line.proofs.Laws.Line.{ready-formed}
+use Rattle.table_load.specs.Load.{loadAnswer}
+use Rattle.table_load.proofs.Laws.Ready.{ready-formed}
 use Rattle.orroute.proofs.Laws.Run.{advanced}
 use borrow.Author.Needs.{needs}
 use Rattle.orroute.proofs.advance.Statement.{statement}

@@ -8,7 +8,7 @@ use borrow.Author.Tests.{ltb-false}
 use lib.ListN.{length, take}
 use lib.Seq.{length-take-le}
 use Rattle.chars.proofs.Laws.Lists.{true-not-false}
-use Rattle.table.specs.Load.{loadAnswer}
+use Rattle.table_load.specs.Load.{loadAnswer}
 use Rattle.router.specs.Run.{Waits}
 use Rattle.orroute.specs.Run.{Paid}
 use Rattle.orroute.proofs.Laws.Run.{answer-stopped, paid-nothing, paid-then, turn-less}

@@ -4,7 +4,7 @@ use Prim.Native.Nat.{_-_, _≤_}
 use native.Mathlib.Omega.{arith}
 use borrow.Rule.Slice.PartMut.{postOf}
 use lib.ListN.{length}
-use Rattle.table.specs.Load.{loadAnswer}
+use Rattle.table_load.specs.Load.{loadAnswer}
 use Rattle.orroute.proofs.Laws.Run.{step-stopped, stepped}
 use borrow.Author.Needs.{needs}
 use Rattle.orroute.proofs.step.Statement.{statement}

@@ -15,7 +15,7 @@ use Rattle.chars.proofs.Laws.Lists.{by-test}
 use Rattle.table.specs.Lines.{TableOutcome}
 use Rattle.router_line.specs.Line.{answerRoom}
 use Rattle.router.specs.Run.{Calls, Lacks, Routing, Waits, afterLine, called, due, ended, whole}
-use Rattle.router_line.specs.Ready.{FormedBy}
+use Rattle.table_load.specs.Load.{FormedBy}
 use Rattle.router.specs.declared.run.Routed.{Routed}
 use Rattle.router_line.proofs.Laws.Line.{answer-length}
 use Rattle.router.proofs.Laws.Run.{whole-none}

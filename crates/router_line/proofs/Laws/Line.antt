@@ -26,14 +26,12 @@ use Rattle.ortext_read.specs.declared.read.Reading.{Reading}
 use Rattle.ortext_write.proofs.Laws.Write.{text-bound}
 use Rattle.table.specs.Formed.{Formed}
 use Rattle.table.specs.Lines as lines
-use Rattle.table.specs.Lines.{loadedFrom, malformed, wellFormed}
-use Rattle.table.specs.Load.{Loading, loadAnswer}
+use Rattle.table.specs.Lines.{malformed, wellFormed}
+use Rattle.table_load.specs.Load.{FormedBy}
 use Rattle.table.specs.Rows.{tableAt}
 use Rattle.table.specs.Table.{Table}
 use Rattle.table.specs.declared.load.Loaded.{Loaded}
-use Rattle.table.specs.declared.load.TableRead.{TableRead}
-use Rattle.table.specs.declared.load.TableRead.the-variants.{Table as TableFound, Malformed}
-use Rattle.table.proofs.Laws.Formed.{loaded-formed}
+use Rattle.table.specs.declared.load.TableRead.the-variants.{Malformed}
 use Rattle.mapping.specs.Answers.{outward, recordNumber, toldRecord}
 use Rattle.mapping.specs.Results.{RecordResult, malformedRecord}
 use Rattle.mapping.specs.ToAddress.{addressOf}
@@ -45,7 +43,6 @@ use Rattle.mapping.proofs.Laws.Returned.{done-canonical}
 use Rattle.mapping.proofs.Laws.Route.{address-under}
 use Rattle.mapping.proofs.Laws.Short.{address-short}
 use Rattle.router_line.specs.Line.{answerRoom, doneLine, lineAnswer, longestLine, readLine, recordLine, refusedLine, sentLine, taggedLine, textLine}
-use Rattle.router_line.specs.Ready.{FormedBy, Ready}
 
 -- a write of a text is one of an equal text
 pub wrote-as : {o n : List ℕ} {i j : ℕ} (s t : List ℕ) → s ≡ t → Wrote o i s j n → Wrote o i t j n
@@ -226,22 +223,3 @@ answer-length l s f =
     by-test (eqb (getD s 1 0) 9)
     (λ g. rw (e, g) (tagged-length l (getD s 0 0) (drop 2 s) f))
     (λ g. rw (e, g) (refused-length 1)))
-
--- a table that was loaded keeps its rules
-pub ready-formed : (s ds rs : List ℕ) (r : TableRead) → Ready s ds rs r → FormedBy (loadAnswer s ds rs r)
-unfolding loadAnswer
-ready-formed s ds rs (TableFound t) h = h .1
-ready-formed s ds rs (Malformed n) h = tt
-
--- and so does one that a text spells
-pub loading-ready : (s ds rs : List ℕ) (r : TableRead) → Loading s (loadedFrom s) r ds rs → Ready s ds rs r
-unfolding loadAnswer
-loading-ready s ds rs (TableFound t) h = (h .kept, loaded-formed s (tableAt s ds rs t) (sym (h .answers)))
-loading-ready s ds rs (Malformed n) h = tt
-
-pub loaded-rules : (s : List ℕ) → FormedBy (loadedFrom s)
-loaded-rules s = by-text (loadedFrom s) refl
-  where
-    by-text : (l : lines.TableOutcome) → loadedFrom s ≡ l → FormedBy l
-    by-text (malformed n) e = tt
-    by-text (wellFormed t) e = loaded-formed s t e

@@ -110,7 +110,7 @@ module _ (s ds rs : List ℕ) (t : load.Loaded.Loaded) where
 -- a row's domain has the bytes from its place to its end
 pub row-length : (s : List ℕ) (p : line.Row.Row) → RowInside s p → length (rowAt s p .domain) ≡ p .«domain_end» - p .domain
 unfolding rowAt
-row-length s p h = between-length s (p .domain) (p .«domain_end») (h .domain) (omega (arith, h .apart, h .path, h .within))
+row-length s p h = between-length s (p .domain) (p .«domain_end») (h .domain) (h .within-domain)
 
 row-domain : (n : ℕ) (r : Row) → isRow n r ≡ true → isDomain (r .domain) ≡ true
 unfolding isRow

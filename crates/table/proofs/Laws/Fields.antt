@@ -6,7 +6,7 @@ use mathlib.Core.List.{List, [], _∷_}
 use Prim.Native.Nat.{ℕ, suc, _+_, _-_, _≤_, _<_}
 use native.Mathlib.Numerals.{add-one}
 use native.Mathlib.Omega.{arith}
-use borrow.Author.Tests.{le-leb, le-ltb, lt-leb, lt-ltb, ltb-true, ltb-false, ne-eqb}
+use borrow.Author.Tests.{le-leb, le-ltb, leb-true, lt-leb, lt-ltb, ltb-true, ltb-false, ne-eqb}
 use lib.Dec.{eqb, leb, ltb, leb·suc-suc}
 use lib.ListN.{length, take, drop, getD, length-drop}
 use lib.Seq.{drop-at, length-take-le, slice-cons, take-add, take-take}
@@ -14,15 +14,16 @@ use Rattle.chars.specs.Lists.{all, nonEmpty}
 use Rattle.chars.specs.Case.{agree, equalText}
 use Rattle.chars.specs.Parts.{before, run, split}
 use Rattle.chars.specs.Spaces.{isText}
-use Rattle.oraddr.specs.Bounds.{boundOf, isCountry, isSpace, isValue, rule}
+use Rattle.oraddr.specs.Bounds.{boundOf, isCountry, isSpace, isValue, levelCount, rule}
 use Rattle.oraddr.specs.Canonical.{isUnit}
-use Rattle.chars.proofs.Laws.Lists.{by-test, true-not-false}
+use Rattle.chars.proofs.Laws.Lists.{and-right, and-three, by-test, true-not-false}
 use Rattle.chars.proofs.Laws.Case.{equal-refl}
 use Rattle.chars.proofs.Laws.Parts.{run-le, split-at-sep, split-end, split-head, split-next, split-some}
 use Rattle.mailaddr.specs.Domain.{isDomain}
 use Rattle.table.specs.Table.{Token}
-use Rattle.table.specs.Lines.{areFields, hasTag, isField, isLevel, isPath, isRow, rowOf}
-use Rattle.table.specs.Rows.{between, fieldsAt}
+use Rattle.table.specs.Lines.{areFields, hasTag, isField, isLevel, isPath, isRow, longestGatewayDomain, rowOf}
+use Rattle.table.specs.Rows.{RowFound, RowInside, between, fieldsAt, rowAt}
+use Rattle.table.specs.declared.line as line
 
 -- a region is what is left of the text that ends with it
 pub region : (s : List ℕ) (at end : ℕ) → at ≤ end → end ≤ length s → drop at (take end s) ≡ between s at end
@@ -219,3 +220,30 @@ module _ (s : List ℕ) (from end tag : ℕ) (h : from + 2 ≤ end) (l : end ≤
     line-test most =
         ap (λ (fs : List Token). hasTag tag fs && isRow most (rowOf fs)) line-fields
         ∙ rw (equal-refl (tag ∷ []), between-length s (from + 2) stop (omega arith) (omega (arith, stop-within s (from + 2) end stop h l q)))
+
+-- ---- a row in the text
+
+-- a row that keeps the rules, at places in the text, is inside it
+pub row-inside : (s : List ℕ) (p : line.Row.Row) (most : ℕ) → isRow most (rowAt s p) ≡ true → most ≤ longestGatewayDomain
+    → p .domain ≤ p .«domain_end» → p .«domain_end» ≤ length s → p .path ≤ p .«path_end» → p .«path_end» ≤ length s → RowInside s p
+unfolding isRow isPath rowAt
+row-inside s p most h m d w q e =
+    let r = rowAt s p in
+    let fs = fieldsAt s (p .path) (p .«path_end») in
+    let t = and-three (leb (length (r .domain)) most) (isDomain (r .domain)) (isPath (r .path)) h in
+    let u = and-three (leb 2 (length fs)) (leb (length fs) levelCount) (areFields 0 fs) (t .2) in
+    record {
+      domain = d;
+      within-domain = w;
+      path = q;
+      within = e;
+      short = omega (arith, leb-true (length (r .domain)) most (t .0), m, between-length s (p .domain) (p .«domain_end») d w);
+      levels = leb-true (length fs) levelCount (u .1);
+    }
+
+-- as the row that was found in a line is
+pub found-inside : {s : List ℕ} {from end tag most : ℕ} {p : line.Row.Row} → RowFound s from end tag most p → end ≤ length s → most ≤ longestGatewayDomain → RowInside s p
+found-inside {s} {from} {end} {tag} {most} {p} f e m =
+    let r = rowOf (split 9 (between s from end)) in
+    row-inside s p most (rw (f .row) (and-right (hasTag tag (split 9 (between s from end))) (isRow most r) (f .accepted))) m
+    (f .domain) (omega (arith, f .apart, f .path, f .ends)) (f .path) (omega (arith, f .ends))

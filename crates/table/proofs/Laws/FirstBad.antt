@@ -16,7 +16,7 @@ use Rattle.chars.proofs.Laws.Lists.{by-test}
 use Rattle.table.specs.Table.{Table}
 use Rattle.table.specs.Lines.{Line, badGateway, badRow, gatewayTable, loadedFrom, longestTable, malformed, readLines, readRows, tableLines, wellFormed, withRow}
 use Rattle.table.specs.FirstBad.{FirstBad, NoneBad, isBad, tableAfter}
-use Rattle.table.proofs.Laws.Load.{lines-some, loaded-large, loaded-lines}
+use Rattle.table.proofs.Laws.Lines.{lines-some, loaded-large, loaded-lines}
 
 -- ---- the rows, after those of a table
 

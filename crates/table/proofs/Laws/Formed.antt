@@ -15,7 +15,7 @@ use Rattle.table.specs.Table.{Table, Token}
 use Rattle.table.specs.Lines.{Line, badGateway, badRow, gatewayTable, hasTag, isGatewayLine, isNewRow, isRow, loadedFrom, longestGatewayDomain, longestRowDomain, malformed, mostRows, readLines, readRows, rowOf, sameDomain, samePath, wellFormed, withRow}
 use Rattle.table.specs.Formed.{Formed, distinct}
 use Rattle.table.proofs.Laws.FirstBad.{well-formed}
-use Rattle.table.proofs.Laws.Load.{lines-some, loaded-lines, one-tag}
+use Rattle.table.proofs.Laws.Lines.{lines-some, loaded-lines, one-tag}
 
 -- ---- one more element
 

@@ -18,7 +18,7 @@ use Rattle.table.specs.declared.rows.KeyPlace.{KeyPlace}
 use Rattle.table.proofs.Laws.Rows.{all-rows, one-row, same-paths}
 
 pub key-inside : (k : Key) (s : List ℕ) (p : line.Row.Row) (q : KeyPlace) → q ≡ keyPlace k p → RowInside s p → (q .from ≤ q .end) × (q .end ≤ length s)
-key-inside Domain s p q e r = rw e (r .domain, omega arith)
+key-inside Domain s p q e r = rw e (r .domain, r .within-domain)
 key-inside Path s p q e r = rw e (r .path, r .within)
 
 -- what stands at the key's place

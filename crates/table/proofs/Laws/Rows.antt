@@ -1,17 +1,16 @@
--- Laws of rows kept as numbers: a row put behind the others with its mark joins them and leaves them, what all rows have, and paths
--- compared as texts.
+-- Laws of rows kept as numbers: a row put behind the others joins them and leaves them, what all rows have, and paths compared as texts.
 -- Assumes nothing.
 use mathlib.Core.Path.{_≡_, refl, sym, ap, ap₂, _∙_}
 use mathlib.Core.Bool.{Bool, true, false, and-false}
 use mathlib.Core.List.{List, [], _∷_, _++_, map, append-assoc}
-use Prim.Native.Nat.{ℕ, zero, suc, _+_, _-_, _*_, _≤_, _<_}
+use Prim.Native.Nat.{ℕ, zero, suc, _+_, _*_, _≤_, _<_}
 use native.Mathlib.Nat.{add-zero, zero-add}
 use native.Mathlib.Numerals.{add-one}
 use native.Mathlib.Omega.{arith}
 use borrow.Author.Count.{below-more}
 use borrow.Author.Tests.{le-leb}
 use lib.ListN.{length, getD, take, drop, set, length-set, List·getD-append}
-use lib.Seq.{sets, sets-eq, getD-append-add, getD-set-other, getD-set-same, length-take-le}
+use lib.Seq.{sets, sets-eq, getD-append-add, getD-set-other, length-take-le}
 use Rattle.chars.specs.Lists.{all}
 use Rattle.chars.specs.Class.{between as inRange, isLetter}
 use Rattle.chars.specs.Case.{agree, foldText, sameText}
@@ -20,13 +19,8 @@ use Rattle.chars.proofs.Laws.Lists.{and-both, and-left, and-right, bool-same, t
 use Rattle.chars.proofs.Laws.Case.{same-of, same-path}
 use Rattle.chars.proofs.Laws.Parts.{join-split, split-fold}
 use Rattle.table.specs.Table.{Row, Token}
-use Rattle.table.specs.Keys.{keyText}
-use Rattle.table.specs.Lines.{mostRows}
-use Rattle.table.specs.Load.{rowsSize}
-use Rattle.table.specs.Marks.{Marked, markOf, marksAt, putMarked}
 use Rattle.table.specs.Rows.{Inside, RowInside, between, fieldsAt, placesAt, putAt, rowAt, rowsAt, rowsFrom}
 use Rattle.table.specs.declared.line as line
-use Rattle.table.specs.declared.rows.Key.{Key}
 
 -- ---- paths
 
@@ -103,55 +97,44 @@ behind-sets : (l : List ℕ) (k : ℕ) (vs : List ℕ) (j : ℕ) → k + length 
 behind-sets l k [] j h = refl
 behind-sets l k (v ∷ vs) j h = behind-sets (set l k v) (suc k) vs j (omega arith) ∙ getD-set-other l k j v 0 (λ e. omega arith)
 
--- a mark stands behind the places of all rows
-places-mark : (ns : List ℕ) (i mark j : ℕ) → j < mostRows → placesAt (set ns (marksAt + i) mark) j ≡ placesAt ns j
-unfolding placesAt
-places-mark ns i mark j h =
-    let k = marksAt + i in
-    rw (
-      getD-set-other ns k (j * 4) mark 0 (λ e. omega arith),
-      getD-set-other ns k (j * 4 + 1) mark 0 (λ e. omega arith),
-      getD-set-other ns k (j * 4 + 2) mark 0 (λ e. omega arith),
-      getD-set-other ns k (j * 4 + 3) mark 0 (λ e. omega arith),
-    )
-
--- the row's places and mark stand there, and those before it stay
-module _ (ns : List ℕ) (i : ℕ) (p : line.Row.Row) (mark : ℕ) where
-  length-put : length (putMarked ns i p mark) ≡ length ns
-  unfolding putMarked putAt
+-- the row's places stand there, and those before them and what stands behind them stay
+module _ (ns : List ℕ) (i : ℕ) (p : line.Row.Row) where
+  pub length-put : length (putAt ns i p) ≡ length ns
+  unfolding putAt
   length-put = simp length-set
 
-  module _ (f : i < mostRows) (l : length ns ≡ rowsSize) where
-    places-put : placesAt (putMarked ns i p mark) i ≡ p
-    unfolding putMarked placesAt putAt
-    places-put =
-        let vs : List ℕ = p .domain ∷ p .«domain_end» ∷ p .path ∷ p .«path_end» ∷ [] in
-        let h : i * 4 + 4 ≤ length ns = omega arith in
-        let e : getD (sets ns (i * 4) vs) (i * 4) 0 ≡ p .domain = ap (λ (k : ℕ). getD (sets ns (i * 4) vs) k 0) (sym (add-zero (i * 4))) ∙ in-sets ns (i * 4) vs 0 h (omega arith) in
-        places-mark (putAt ns i p) i mark i f
-        ∙ rw (e, in-sets ns (i * 4) vs 1 h (omega arith), in-sets ns (i * 4) vs 2 h (omega arith), in-sets ns (i * 4) vs 3 h (omega arith))
+  pub places-put : i * 4 + 4 ≤ length ns → placesAt (putAt ns i p) i ≡ p
+  unfolding placesAt putAt
+  places-put h =
+      let vs : List ℕ = p .domain ∷ p .«domain_end» ∷ p .path ∷ p .«path_end» ∷ [] in
+      let e : getD (sets ns (i * 4) vs) (i * 4) 0 ≡ p .domain = ap (λ (k : ℕ). getD (sets ns (i * 4) vs) k 0) (sym (add-zero (i * 4))) ∙ in-sets ns (i * 4) vs 0 h (omega arith) in
+      rw (e, in-sets ns (i * 4) vs 1 h (omega arith), in-sets ns (i * 4) vs 2 h (omega arith), in-sets ns (i * 4) vs 3 h (omega arith))
 
-    places-before : (j : ℕ) → j < i → placesAt (putMarked ns i p mark) j ≡ placesAt ns j
-    unfolding putMarked placesAt putAt
-    places-before j h =
-        let vs : List ℕ = p .domain ∷ p .«domain_end» ∷ p .path ∷ p .«path_end» ∷ [] in
-        places-mark (putAt ns i p) i mark j (omega arith)
-        ∙ rw (
-          before-sets ns (i * 4) vs (j * 4) (omega arith),
-          before-sets ns (i * 4) vs (j * 4 + 1) (omega arith),
-          before-sets ns (i * 4) vs (j * 4 + 2) (omega arith),
-          before-sets ns (i * 4) vs (j * 4 + 3) (omega arith),
-        )
+  pub places-before : (j : ℕ) → j < i → placesAt (putAt ns i p) j ≡ placesAt ns j
+  unfolding placesAt putAt
+  places-before j h =
+      let vs : List ℕ = p .domain ∷ p .«domain_end» ∷ p .path ∷ p .«path_end» ∷ [] in
+      rw (
+        before-sets ns (i * 4) vs (j * 4) (omega arith),
+        before-sets ns (i * 4) vs (j * 4 + 1) (omega arith),
+        before-sets ns (i * 4) vs (j * 4 + 2) (omega arith),
+        before-sets ns (i * 4) vs (j * 4 + 3) (omega arith),
+      )
 
-    mark-put : getD (putMarked ns i p mark) (marksAt + i) 0 ≡ mark
-    unfolding putMarked putAt
-    mark-put = getD-set-same (putAt ns i p) (marksAt + i) mark 0 (simp length-set (omega arith))
+  pub put-behind : (j : ℕ) → i * 4 + 4 ≤ j → getD (putAt ns i p) j 0 ≡ getD ns j 0
+  unfolding putAt
+  put-behind j h = behind-sets ns (i * 4) (p .domain ∷ p .«domain_end» ∷ p .path ∷ p .«path_end» ∷ []) j h
 
-    mark-before : (j : ℕ) → j < i → getD (putMarked ns i p mark) (marksAt + j) 0 ≡ getD ns (marksAt + j) 0
-    unfolding putMarked putAt
-    mark-before j h =
-        getD-set-other (putAt ns i p) (marksAt + i) (marksAt + j) mark 0 (λ e. omega arith)
-        ∙ behind-sets ns (i * 4) (p .domain ∷ p .«domain_end» ∷ p .path ∷ p .«path_end» ∷ []) (marksAt + j) (omega arith)
+-- a number stored behind the places of row j leaves them
+pub places-set : (ns : List ℕ) (k v j : ℕ) → j * 4 + 4 ≤ k → placesAt (set ns k v) j ≡ placesAt ns j
+unfolding placesAt
+places-set ns k v j h =
+    rw (
+      getD-set-other ns k (j * 4) v 0 (λ e. omega arith),
+      getD-set-other ns k (j * 4 + 1) v 0 (λ e. omega arith),
+      getD-set-other ns k (j * 4 + 2) v 0 (λ e. omega arith),
+      getD-set-other ns k (j * 4 + 3) v 0 (λ e. omega arith),
+    )
 
 module _ (s ns : List ℕ) where
   rows-same : (ms : List ℕ) (i n : ℕ) → ((j : ℕ) → j < i + n → placesAt ms j ≡ placesAt ns j) → rowsFrom s ms i n ≡ rowsFrom s ns i n
@@ -180,39 +163,22 @@ module _ (s ns : List ℕ) where
   length-rows n = length-from 0 n
 
 -- a row put behind the first n joins them
-module _ (s ns : List ℕ) (n : ℕ) (p : line.Row.Row) (mark : ℕ) (f : n < mostRows) (l : length ns ≡ rowsSize) where
-  pub rows-put : rowsAt s (putMarked ns n p mark) (n + 1) ≡ rowsAt s ns n ++ (rowAt s p ∷ [])
+module _ (s ns : List ℕ) (n : ℕ) (p : line.Row.Row) (ms : List ℕ) (low : (j : ℕ) → j < n → placesAt ms j ≡ placesAt ns j) (here : placesAt ms n ≡ p) where
+  pub rows-put : rowsAt s ms (n + 1) ≡ rowsAt s ns n ++ (rowAt s p ∷ [])
   unfolding rowsAt
   rows-put =
-      let ms = putMarked ns n p mark in
       ap (rowsFrom s ms 0) (add-one n)
       ∙ rows-snoc s ms 0 n
       ∙ ap₂ (λ (rs : List Row) (q : line.Row.Row). rs ++ (rowAt s q ∷ []))
-      (rows-same s ns ms 0 n (λ j h. places-before ns n p mark f l j (omega arith)))
-      (ap (placesAt ms) (zero-add n) ∙ places-put ns n p mark f l)
+      (rows-same s ns ms 0 n (λ j h. low j (omega arith)))
+      (ap (placesAt ms) (zero-add n) ∙ here)
 
-  pub inside-put : Inside s ns n → RowInside s p → Inside s (putMarked ns n p mark) (n + 1)
-  inside-put i r =
+  pub inside-put : n * 4 + 4 ≤ length ms → Inside s ns n → RowInside s p → Inside s ms (n + 1)
+  inside-put l i r =
       record {
-        fits = omega (arith, length-put ns n p mark);
-        each = below-more (λ k. RowInside s (placesAt (putMarked ns n p mark) k)) n (λ k h. rw (places-before ns n p mark f l k h) (i .each k h)) (rw (places-put ns n p mark f l) r);
+        fits = omega arith;
+        each = below-more (λ k. RowInside s (placesAt ms k)) n (λ k h. rw (low k h) (i .each k h)) (rw here r);
       }
-
-pub marked-put : (k : Key) (s ns : List ℕ) (n : ℕ) (p : line.Row.Row) → n < mostRows → length ns ≡ rowsSize → Marked k s ns n
-    → Marked k s (putMarked ns n p (markOf (keyText k s p))) (n + 1)
-marked-put k s ns n p f l m =
-    let mark = markOf (keyText k s p) in
-    let ms = putMarked ns n p mark in
-    record {
-      fits = omega (arith, length-put ns n p mark);
-      each =
-          below-more (λ i. getD ms (marksAt + i) 0 ≡ markOf (keyText k s (placesAt ms i))) n
-          (λ i h. mark-before ns n p mark f l i h ∙ m .each i h ∙ ap (λ (q : line.Row.Row). markOf (keyText k s q)) (sym (places-before ns n p mark f l i h)))
-          (mark-put ns n p mark f l ∙ ap (λ (q : line.Row.Row). markOf (keyText k s q)) (sym (places-put ns n p mark f l)));
-    }
 
 pub inside-none : (s ns : List ℕ) → Inside s ns 0
 inside-none s ns = record { fits = omega arith; each = λ i h. absurd (omega arith) }
-
-pub marked-none : (k : Key) (s ns : List ℕ) → length ns ≡ rowsSize → Marked k s ns 0
-marked-none k s ns l = record { fits = omega arith; each = λ i h. absurd (omega arith) }

@@ -2,7 +2,7 @@
 -- Assumes nothing.
 use borrow.Author.Needs.{needs}
 use mathlib.Core.Path.{subst}
-use Rattle.table.specs.Load.{KeptBy}
+use Rattle.table_load.specs.Load.{KeptBy}
 use Rattle.table.specs.declared.load.TableRead.{TableRead}
 use Rattle.table_cases.proofs.run_loaded.Statement.{statement}
 use Rattle.table_cases.proofs.run_loaded.Tie as tie

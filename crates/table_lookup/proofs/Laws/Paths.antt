@@ -1,31 +1,27 @@
--- Laws of a path against a record's levels: a level that is read, the levels from one on, and the loop over the rows.
+-- Laws of a path against a record's levels: a level that is read, and the levels from one on.
 -- Assumes nothing.
-use mathlib.Core.Path.{_≡_, refl, sym, ap, ap₂, _∙_}
-use mathlib.Core.Bool.{true, false, _&&_, cond}
+use mathlib.Core.Path.{_≡_, refl, sym, ap}
+use mathlib.Core.Bool.{true, false, cond}
 use mathlib.Core.List.{List, [], _∷_}
-use Prim.Native.Nat.{ℕ, suc, _+_, _-_, _≤_, _<_}
-use native.Mathlib.Nat.{add-zero, zero-add}
+use Prim.Native.Nat.{ℕ, suc, _+_, _-_, _≤_}
+use native.Mathlib.Nat.{add-zero}
 use native.Mathlib.Numerals.{add-one}
 use native.Mathlib.Omega.{arith}
-use borrow.Author.Tests.{eq-eqb, eqb-true, le-leb, lt-leb, ltb-true}
-use lib.Dec.{eqb, leb}
+use borrow.Author.Tests.{eq-eqb, eqb-true}
+use lib.Dec.{eqb}
 use lib.ListN.{length, getD}
 use Rattle.chars.specs.Case.{agree, sameText}
-use Rattle.chars.proofs.Laws.Lists.{bool-same, by-test, true-not-false}
+use Rattle.chars.proofs.Laws.Lists.{bool-same, true-not-false}
 use Rattle.chars.proofs.Laws.Case.{same-length}
-use Rattle.chars.proofs.Laws.Seq.{some-test}
 use Rattle.table.specs.Table.{Token}
-use Rattle.table.specs.Rows.{Inside, between, fieldsAt, placesAt, rowAt}
+use Rattle.table.specs.Rows.{between, fieldsAt}
 use Rattle.table_lookup.specs.Levels.{LevelFound, Levelled}
 use Rattle.table_lookup.specs.Begins.{beginsBy}
-use Rattle.table_lookup.specs.Lookup.{begins, byPath}
-use Rattle.table_lookup.specs.Looked.{Ended, KindInside, Looked, isReached, tokensFrom}
+use Rattle.table_lookup.specs.Lookup.{begins}
+use Rattle.table_lookup.specs.Looked.{Ended, KindInside, isReached, tokensFrom}
 use Rattle.table_lookup.specs.declared.level.LevelKind.{LevelKind}
 use Rattle.table_lookup.specs.declared.level.LevelKind.the-variants.{Named, Omitted, NotReached}
-use Rattle.table_lookup.specs.declared.lookup.Found.{Found}
-use Rattle.table_lookup.specs.declared.lookup.Found.the-variants.{At, Nowhere}
-use Rattle.table.proofs.Laws.Fields.{between-length, between-none, fields-some}
-use Rattle.table_lookup.proofs.Laws.Lookup.{noLonger}
+use Rattle.table.proofs.Laws.Fields.{between-length, between-none}
 
 -- ---- a level that is read
 
@@ -94,37 +90,3 @@ module _ (s ends : List ℕ) (k left : ℕ) (fs : List Token) where
         → cond (begins gs (tokensFrom s ends (k + 1) (left - 1))) (k + 1 + length gs) 0 ≡ cond (begins fs (tokensFrom s ends k left)) (k + length fs) 0
     unfolding beginsBy
     path-next h n = let z : k + 1 + length gs ≡ k + suc (length gs) = omega arith in rw (e, more h, n, z)
-
--- ---- the loop over the rows
-
--- how many levels the path has of the row that was found; a path has one at least
-unfoldable pub levelsAt : List ℕ → List ℕ → Found → ℕ
-unfolding rowAt placesAt
-levelsAt s ns Nowhere = 1
-levelsAt s ns (At j) = length (byPath (rowAt s (placesAt ns j)))
-
-path-some : (s ns : List ℕ) (n : ℕ) → Inside s ns n → (k : ℕ) → k < n → 0 < length (byPath (rowAt s (placesAt ns k)))
-unfolding rowAt
-path-some s ns n p k m =
-    let fs : List Token = byPath (rowAt s (placesAt ns k)) in
-    ltb-true 0 (length fs) (some-test fs ∙ fields-some s (placesAt ns k .path) (placesAt ns k .«path_end») (p .each k m .path))
-
-module _ (s ns : List ℕ) (q : List Token) (n i : ℕ) (p : Inside s ns n) (l : i < n) where
-  levels-test : (o : Found) → Looked byPath s ns i q o
-      → leb (levelsAt s ns o) (cond (begins (byPath (rowAt s (placesAt ns i))) q) (0 + length (byPath (rowAt s (placesAt ns i)))) 0)
-      ≡ (begins (byPath (rowAt s (placesAt ns i))) q && noLonger byPath s ns o i)
-  unfolding levelsAt noLonger
-  levels-test Nowhere h =
-      by-test (begins (byPath (rowAt s (placesAt ns i))) q)
-      (λ e. rw e (le-leb 1 (0 + length (byPath (rowAt s (placesAt ns i)))) (omega (arith, path-some s ns n p i l))))
-      (λ e. rw e)
-  levels-test (At j) h =
-      by-test (begins (byPath (rowAt s (placesAt ns i))) q)
-      (λ e. rw (e, zero-add))
-      (λ e. rw e (lt-leb (length (byPath (rowAt s (placesAt ns j)))) 0 (path-some s ns n p j (omega (arith, h .below)))))
-
-  -- the test of how many levels match is the definition's
-  pub path-test : (o : Found) → Looked byPath s ns i q o → (m k : ℕ) → m ≡ levelsAt s ns o
-      → k ≡ cond (begins (byPath (rowAt s (placesAt ns i))) q) (0 + length (byPath (rowAt s (placesAt ns i)))) 0
-      → leb m k ≡ (begins (byPath (rowAt s (placesAt ns i))) q && noLonger byPath s ns o i)
-  path-test o h m k e f = ap₂ leb e f ∙ levels-test o h

@@ -1,15 +1,13 @@
 -- Laws of tails by whole parts: a domain's parts from the right begin another's exactly where it is a tail of the other, case aside,
--- behind a dot or all of it; and of two tails of one domain the longer has more parts.
+-- behind a dot or all of it.
 -- Assumes nothing.
 use mathlib.Core.Path.{_≡_, refl, sym, ap, ap₂, _∙_}
 use mathlib.Core.Logic.{_⊎_, inl, inr, ⊎-elim}
-use mathlib.Core.Bool.{true, false, _&&_, and-false, and-true}
+use mathlib.Core.Bool.{true, false}
 use mathlib.Core.List.{List, [], _∷_, _++_, map, append-assoc, append-nil, reverse, reverse-cons}
 use Prim.Native.Nat.{ℕ, suc, _+_, _-_, _≤_, _<_}
 use native.Mathlib.Omega.{arith}
-use borrow.Author.Tests.{le-leb, leb-true, leb-false}
-use lib.Dec.{leb, leb·zero}
-use lib.ListN.{length, drop, getD, take, length-append, length-map}
+use lib.ListN.{length, drop, getD, take, length-append}
 use lib.Seq.{drop-append-add, getD-append-seam, split-at}
 use Rattle.chars.specs.Lists.{all, nonEmpty}
 use Rattle.chars.specs.Case.{foldText, sameText}
@@ -21,16 +19,9 @@ use Rattle.chars.proofs.Laws.Parts.{clear, join-split, split-clear, split-some}
 use Rattle.mailaddr.specs.Domain.{domainOf, inFront, partsOf}
 use Rattle.mailaddr.proofs.Laws.Domain.{domain-fold, domain-front, domain-parts, parts-fold, parts-front, parts-some}
 use Rattle.table.specs.Table.{Token}
-use Rattle.table.specs.Rows.{Inside, between, placesAt, rowAt}
+use Rattle.table.specs.Rows.{between}
 use Rattle.table_lookup.specs.Begins.{beginsBy}
-use Rattle.table_lookup.specs.Lookup.{begins, byDomain}
-use Rattle.table_lookup.specs.Looked.{Looked}
-use Rattle.table.specs.declared.line.Row.{Row}
-use Rattle.table_lookup.specs.declared.lookup.Found.{Found}
-use Rattle.table_lookup.specs.declared.lookup.Found.the-variants.{At, Nowhere}
-use Rattle.table.proofs.Laws.Fields.{between-length}
-use Rattle.table_lookup.proofs.Laws.Begins.{begins-both}
-use Rattle.table_lookup.proofs.Laws.Lookup.{found-begins, noLonger, same-equality}
+use Rattle.table_lookup.specs.Lookup.{begins}
 
 -- ---- two texts with a dot between them
 
@@ -162,52 +153,3 @@ module _ (a d : List ℕ) where
         (λ h. ap (λ (m : ℕ). sameText (drop m d) a) q ∙ tail-place h .1)
         (λ h. ap (begins (partsOf a)) (ap partsOf cut ∙ parts-append (take (n - 1) d) (drop n d))
         ∙ fold-begins (partsOf a) (partsOf (drop n d)) (partsOf (take (n - 1) d)) (fold-parts (drop n d) a h))
-
--- of two tails of one domain the longer has more parts
-pub tail-longer : (a b : List ℕ) (q : List Token) → begins (partsOf a) q ≡ true → begins (partsOf b) q ≡ true
-    → leb (length (partsOf a)) (length (partsOf b)) ≡ leb (length a) (length b)
-tail-longer a b q h k =
-    let m : ℕ = length (partsOf a) in
-    let n : ℕ = length (partsOf b) in
-    bool-same (leb m n) (leb (length a) (length b))
-    (λ e. le-leb (length a) (length b) (tail-place a b (begins-both same-equality (partsOf a) (partsOf b) q h k (leb-true m n e)) .0))
-    (λ e. by-test (leb m n) (λ f. f) (λ f.
-    let g = tail-place b a (begins-both same-equality (partsOf b) (partsOf a) q k h (omega (arith, leb-false m n f))) in
-    let z : length a - length b ≡ 0 = omega (arith, leb-true (length a) (length b) e) in
-    let y : sameText a b ≡ true = rw z at (g .1) in
-    absurd (omega (arith, leb-false m n f, length-map (partsOf a) foldText, length-map (partsOf b) foldText, ap length (fold-parts a b y)))))
-
--- ---- the loop over the rows
-
--- how long the domain is of the row that was found
-unfoldable pub sizeAt : List ℕ → Found → ℕ
-unfolding placesAt
-sizeAt ns Nowhere = 0
-sizeAt ns (At j) = placesAt ns j .«domain_end» - placesAt ns j .domain
-
-module _ (s ns : List ℕ) (q : List Token) (n i : ℕ) (p : Inside s ns n) (l : i < n) where
-  size : (k : ℕ) → k < n → length (rowAt s (placesAt ns k) .domain) ≡ placesAt ns k .«domain_end» - placesAt ns k .domain
-  unfolding rowAt
-  size k m =
-      between-length s (placesAt ns k .domain) (placesAt ns k .«domain_end») (p .each k m .domain)
-      (omega (arith, p .each k m .apart, p .each k m .path, p .each k m .within))
-
-  bytes-test : (o : Found) → Looked byDomain s ns i q o
-      → (leb (sizeAt ns o) (sizeAt ns (At i)) && begins (byDomain (rowAt s (placesAt ns i))) q) ≡ (begins (byDomain (rowAt s (placesAt ns i))) q && noLonger byDomain s ns o i)
-  unfolding sizeAt noLonger partsOf
-  bytes-test Nowhere h = rw (leb·zero, and-true)
-  bytes-test (At j) h =
-      let a : List ℕ = rowAt s (placesAt ns j) .domain in
-      let b : List ℕ = rowAt s (placesAt ns i) .domain in
-      by-test (begins (partsOf b) q)
-      (λ e. rw (e, tail-longer a b q (found-begins byDomain s ns q i j h) e, size j (omega (arith, h .below)), size i l, and-true))
-      (λ e. rw (e, and-false))
-
-  -- the test of a row's domain, by its bytes, is the definition's
-  pub tail-test : (o : Found) → Looked byDomain s ns i q o → (m : ℕ) (r : Row) → m ≡ sizeAt ns o → r ≡ placesAt ns i
-      → (leb m (r .«domain_end» - r .domain) && begins (partsOf (between s (r .domain) (r .«domain_end»))) q)
-      ≡ (begins (byDomain (rowAt s (placesAt ns i))) q && noLonger byDomain s ns o i)
-  unfolding sizeAt rowAt partsOf
-  tail-test o h m r e f =
-      ap₂ (λ (m : ℕ) (r : Row). leb m (r .«domain_end» - r .domain) && begins (partsOf (between s (r .domain) (r .«domain_end»))) q) e f
-      ∙ bytes-test o h

@@ -28,7 +28,7 @@ use Rattle.table_lookup.specs.Begins.{resolveBy, settledBy}
 use Rattle.table_lookup.specs.Lookup.{begins, byDomain, byPath}
 use Rattle.table_lookup.specs.Looked.{Looked, foundRow}
 use Rattle.table_settle.specs.Settle.{addLevel, addLevels, answerOf, begun, leftParts, noRow, pastBound, pastUnits, settledAs, settledFrom, settlementAnswer, settling}
-use Rattle.table_lookup.specs.declared.lookup.Found.the-variants.{At, Nowhere}
+use Rattle.table_lookup.specs.declared.search.Found.the-variants.{At, Nowhere}
 use Rattle.table_settle.specs.declared.settle.Settled.{Settled}
 use Rattle.table_settle.specs.declared.settle.Settlement.{Settlement}
 use Rattle.table.proofs.Laws.Fields.{between-length}
@@ -172,7 +172,7 @@ module _ (s ns d : List ℕ) (n : ℕ) (p : Inside s ns n) (i : ℕ) (h : Looked
   unfolding rowAt
   size =
       let q = p .each i (h .below) in
-      between-length s (placesAt ns i .domain) (placesAt ns i .«domain_end») (q .domain) (omega (arith, q .apart, q .path, q .within))
+      between-length s (placesAt ns i .domain) (placesAt ns i .«domain_end») (q .domain) (q .within-domain)
 
   pub found-fits : placesAt ns i .«domain_end» - placesAt ns i .domain ≤ length d
   found-fits = omega (arith, size, tail-place (rowAt s (placesAt ns i) .domain) d found-tail .0)

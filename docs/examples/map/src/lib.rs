@@ -2,6 +2,8 @@
 
 /// The exports themselves.
 mod exports {
+    use super::Row;
+
     extern "C" {
         pub fn gateway_to_record(
             table: *const u8,
@@ -34,6 +36,48 @@ mod exports {
         pub fn gateway_route(
             table: *const u8,
             table_len: usize,
+            over: bool,
+            input: *const u8,
+            input_len: usize,
+            last: bool,
+            out: *mut u8,
+            out_len: usize,
+            taken: *mut usize,
+            written: *mut usize,
+        ) -> bool;
+        pub fn gateway_list_to_record(
+            text: *const u8,
+            text_len: usize,
+            rows: *const Row,
+            row_count: usize,
+            address: *const u8,
+            address_len: usize,
+            out: *mut u8,
+            out_len: usize,
+        ) -> usize;
+        pub fn gateway_list_to_address(
+            text: *const u8,
+            text_len: usize,
+            rows: *const Row,
+            row_count: usize,
+            record_text: *const u8,
+            record_text_len: usize,
+            out: *mut u8,
+            out_len: usize,
+        ) -> usize;
+        pub fn gateway_list_check(
+            text: *const u8,
+            text_len: usize,
+            rows: *const Row,
+            row_count: usize,
+            out: *mut u8,
+            out_len: usize,
+        ) -> usize;
+        pub fn gateway_list_route(
+            text: *const u8,
+            text_len: usize,
+            rows: *const Row,
+            row_count: usize,
             over: bool,
             input: *const u8,
             input_len: usize,
@@ -94,7 +138,7 @@ pub enum Refusal {
     LongCarried,
     NoRecord,
     BadCarried,
-    /// The first bad line; 0 where the table is over 65,536 bytes.
+    /// The first bad line, or entry of a list; 0 where the table's text is over 65,536 bytes.
     BadTable(usize),
 }
 
@@ -103,11 +147,31 @@ pub enum Verdict {
     Sound,
     /// The text of a record that does not come back.
     Unsound(Vec<u8>),
-    /// The first bad line; 0 where the table is over 65,536 bytes.
+    /// The first bad line, or entry of a list; 0 where the table's text is over 65,536 bytes.
     Malformed(usize),
 }
 
-/// How far a call of `route` came.
+/// One entry of a list: its domain and its path, the fields parted by single tabs, stand at these places of the list's text. Any numbers are
+/// taken; an entry that is bad is refused.
+#[repr(C)]
+#[derive(Clone, Copy, Debug, PartialEq, Eq)]
+pub struct Row {
+    /// The byte `G`, `D` or `R`.
+    pub kind: usize,
+    pub domain: usize,
+    pub domain_len: usize,
+    pub path: usize,
+    pub path_len: usize,
+}
+
+/// A table whose rows the caller built: the gateway's entry first, and the text in which their domains and paths stand.
+#[derive(Clone, Copy, Debug)]
+pub struct List<'a> {
+    pub text: &'a [u8],
+    pub rows: &'a [Row],
+}
+
+/// How far a call of `route` or `list_route` came.
 #[derive(Clone, Copy, Debug, PartialEq, Eq)]
 pub struct Routed {
     /// What the next call takes as `over`.
@@ -165,15 +229,20 @@ pub fn to_address(table: &[u8], record_text: &[u8]) -> Result<Vec<u8>, Refusal> 
     text(answer, &out)
 }
 
+/// The verdict of an answer; a witness always fits in the room that was lent.
+fn verdict(answer: usize, out: &[u8]) -> Verdict {
+    match (answer % 16, answer / 16) {
+        (0, _) => Verdict::Sound,
+        (7, number) => Verdict::Malformed(number),
+        (_, length) => Verdict::Unsound(out[..length].to_vec()),
+    }
+}
+
 pub fn check(table: &[u8]) -> Verdict {
     let mut out = [0; ANSWER_ROOM];
     let answer =
         unsafe { exports::gateway_check(table.as_ptr(), table.len(), out.as_mut_ptr(), out.len()) };
-    match (answer % 16, answer / 16) {
-        (0, _) => Verdict::Sound,
-        (7, line) => Verdict::Malformed(line),
-        (_, length) => Verdict::Unsound(out[..length].to_vec()),
-    }
+    verdict(answer, &out)
 }
 
 /// The tail that two domains share by whole parts, letter case aside, inside the first.
@@ -191,6 +260,84 @@ pub fn route(table: &[u8], over: bool, input: &[u8], last: bool, out: &mut [u8])
         exports::gateway_route(
             table.as_ptr(),
             table.len(),
+            over,
+            input.as_ptr(),
+            input.len(),
+            last,
+            out.as_mut_ptr(),
+            out.len(),
+            &mut taken,
+            &mut written,
+        )
+    };
+    Routed {
+        over,
+        taken,
+        written,
+    }
+}
+
+/// `to_record` under a list.
+pub fn list_to_record(list: List, address: &[u8]) -> Result<Vec<u8>, Refusal> {
+    let mut out = [0; ANSWER_ROOM];
+    let answer = unsafe {
+        exports::gateway_list_to_record(
+            list.text.as_ptr(),
+            list.text.len(),
+            list.rows.as_ptr(),
+            list.rows.len(),
+            address.as_ptr(),
+            address.len(),
+            out.as_mut_ptr(),
+            out.len(),
+        )
+    };
+    text(answer, &out)
+}
+
+/// `to_address` under a list.
+pub fn list_to_address(list: List, record_text: &[u8]) -> Result<Vec<u8>, Refusal> {
+    let mut out = [0; ANSWER_ROOM];
+    let answer = unsafe {
+        exports::gateway_list_to_address(
+            list.text.as_ptr(),
+            list.text.len(),
+            list.rows.as_ptr(),
+            list.rows.len(),
+            record_text.as_ptr(),
+            record_text.len(),
+            out.as_mut_ptr(),
+            out.len(),
+        )
+    };
+    text(answer, &out)
+}
+
+/// `check` of a list.
+pub fn list_check(list: List) -> Verdict {
+    let mut out = [0; ANSWER_ROOM];
+    let answer = unsafe {
+        exports::gateway_list_check(
+            list.text.as_ptr(),
+            list.text.len(),
+            list.rows.as_ptr(),
+            list.rows.len(),
+            out.as_mut_ptr(),
+            out.len(),
+        )
+    };
+    verdict(answer, &out)
+}
+
+/// `route` under a list.
+pub fn list_route(list: List, over: bool, input: &[u8], last: bool, out: &mut [u8]) -> Routed {
+    let (mut taken, mut written) = (0, 0);
+    let over = unsafe {
+        exports::gateway_list_route(
+            list.text.as_ptr(),
+            list.text.len(),
+            list.rows.as_ptr(),
+            list.rows.len(),
             over,
             input.as_ptr(),
             input.len(),

@@ -11,7 +11,9 @@ fn in_words(refusal: Refusal) -> String {
     match refusal {
         Refusal::NoAddress => "not an address of the form local-part@domain".to_string(),
         Refusal::LongAddress => "an address over 2,048 bytes".to_string(),
-        Refusal::LongCarried => "it would have to be carried whole, and is too long for that".to_string(),
+        Refusal::LongCarried => {
+            "it would have to be carried whole, and is too long for that".to_string()
+        }
         Refusal::NoRecord => "not the text of a record".to_string(),
         Refusal::BadCarried => "it carries something that is not an address".to_string(),
         Refusal::BadTable(line) => format!("the table is malformed at line {line}"),

@@ -9,7 +9,8 @@ use lib.ListN.{length, getD, length-map, length-set}
 use Rattle.chars.proofs.Laws.Write.{wrote-length}
 use Rattle.oraddr.specs.Attributes.{levels}
 use Rattle.oraddr.specs.View.{singlesView, unitView, valueView, view}
-use Rattle.mapping.specs.Flat.{endsRoom, levelsRoom}
+use Rattle.mapping.specs.Flat.{endsRoom}
+use Rattle.table_lookup.specs.Looked.{levelsRoom}
 use Rattle.mapping.proofs.Laws.Flat.{Filled, all-good, filled-all, filled-more, filled-none, isShort, length-levels, level-short, short-part}
 use Rattle.mapping_to_address.proofs.levels.flatten.Statement.{statement}
 use Rattle.mapping_to_address.proofs.levels.flatten.Tie as tie

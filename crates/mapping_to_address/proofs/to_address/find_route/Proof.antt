@@ -3,7 +3,7 @@
 use native.Mathlib.Omega.{arith}
 use Rattle.table_lookup.specs.Looked.{Looked, levelTokens}
 use Rattle.table_lookup.specs.Lookup.{byPath}
-use Rattle.table_lookup.specs.declared.lookup.Found.the-variants.{At}
+use Rattle.table_lookup.specs.declared.search.Found.the-variants.{At}
 use Rattle.table_lookup.proofs.Laws.Lookup.{found-begins}
 use Rattle.mapping.proofs.Laws.Route.{routed-found, routed-nowhere}
 use borrow.Author.Needs.{needs}
@@ -18,7 +18,7 @@ found c = rw (c .i .given .1) at (c .before .before .find-path .ensures)
 row-at-requires : tie.Need-row-at-requires
 row-at-requires c κs =
     let start = c .before .before .before .before .before .before .before .before in
-    omega (arith, found (c .before) .below, start .pre .1 .0 .fits)
+    omega (arith, found (c .before) .below, start .pre .1 .0 .inside .fits)
 
 route-under-requires : tie.Need-route-under-requires
 route-under-requires c κs =
@@ -28,7 +28,7 @@ route-under-requires c κs =
     let i = at .i .given .0 .0 in
     let h = found at in
     rw (c .row-at .ensures)
-    (start .pre .1 .0 .each i (h .below), (start .pre .1 .1, found-begins byPath (a .text .now) (a .to-domain .now) (levelTokens (a .flat .now) (a .ends .now)) (a .table .«to_domain») i h))
+    (start .pre .1 .0 .inside .each i (h .below), (start .pre .1 .1 .ended, found-begins byPath (a .text .now) (a .to-domain .now) (levelTokens (a .flat .now) (a .ends .now)) (a .table .«to_domain») i h))
 
 returns : tie.Need-returns
 returns c =

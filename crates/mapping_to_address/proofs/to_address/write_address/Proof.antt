@@ -6,6 +6,7 @@ use Rattle.oraddr.specs.Attributes.{levels}
 use Rattle.oraddr.specs.View.{view}
 use Rattle.mapping.specs.Answers.{RoutedBy, outward}
 use Rattle.mapping.specs.ToAddress.{isCarrier}
+use Rattle.mapping.proofs.Laws.Laid.{flat-laid}
 use Rattle.mapping.proofs.Laws.Route.{address-carried, address-planned, carrier-test, length-routed, planned-route, wrote-fronted}
 use borrow.Author.Needs.{needs}
 use Rattle.mapping_to_address.proofs.to_address.write_address.Statement.{statement}
@@ -32,6 +33,12 @@ routed : (c : tie.After-find-route) → let a = c .before .before .before .befor
     RoutedBy (a .text .now) (outward (a .text .now) (a .to-domain .now) (a .table)) (levels (view (a .rec))) (c .find-route .result)
 routed c = rw (c .before .before .before .before .before .before .before .before .before .before .flatten .ensures .holds) at (c .find-route .ensures)
 
+find-route-requires : tie.Need-find-route-requires
+find-route-requires c κs =
+    let f = c .before .before .before .before .before .before .before .before .before .flatten in
+    let start = c .before .before .before .before .before .before .before .before .before .before .before .before .before .before .before in
+    (start .pre .1 .0, (start .pre .1 .1 .0, flat-laid (start .args .rec) (f .last .1 .0) (f .last .1 .1 .0) (start .pre .1 .1 .1) (f .ensures)))
+
 write-routed-requires : tie.Need-write-routed-requires
 write-routed-requires c κs =
     let at = c .before .before .before in
@@ -51,5 +58,5 @@ returns-2 c =
 
 pub write-address-spec : {M : Type 1} → statement M
 write-address-spec = tie.close (tie.spec (λ c. search needs) (λ c. search needs) (λ c κs. search needs) (λ c. search needs) (λ c. search needs)
-    (λ c κs. search needs) (λ c κs. search needs) (λ c. search needs) returns (λ c. search needs) (λ c. search needs) (λ c κs. search needs)
+    (λ c κs. search needs) (λ c κs. search needs) (λ c. search needs) returns (λ c. search needs) (λ c. search needs) find-route-requires
     (λ c. search needs) (λ c. search needs) write-routed-requires (λ c. search needs) returns-2)

@@ -9,7 +9,7 @@ use lib.ListN.{length, drop, length-drop}
 use lib.Seq.{length-take-le}
 use Rattle.chars.proofs.Laws.Write.{wrote-length}
 use Rattle.router.proofs.Laws.Calls.{call-moves}
-use Rattle.router_line.proofs.Laws.Line.{loaded-rules}
+use Rattle.table_load.proofs.Laws.Ready.{loaded-rules}
 use Rattle.route_cases.proofs.feed.answer.Statement.{statement}
 use Rattle.route_cases.proofs.feed.answer.Tie as tie
 

@@ -6,7 +6,7 @@ use Prim.Native.Nat.{ℕ, _+_, _-_, _<_}
 use native.Mathlib.Omega.{arith}
 use lib.ListN.{length, take, drop, length-drop}
 use lib.Seq.{take-all}
-use Rattle.table.specs.Load.{loadAnswer}
+use Rattle.table_load.specs.Load.{loadAnswer}
 use Rattle.router_line.specs.Line.{lineAnswer}
 use Rattle.router_line.proofs.Laws.Line.{wrote-as}
 use Rattle.router.proofs.Laws.Run.{rest-full, routing-rest}

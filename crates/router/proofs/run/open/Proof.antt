@@ -1,6 +1,6 @@
 -- `router::run::open` meets its contract.
 -- Assumes nothing.
-use Rattle.router_line.proofs.Laws.Line.{loading-ready}
+use Rattle.table_load.proofs.Laws.Ready.{loading-ready}
 use borrow.Author.Needs.{needs}
 use Rattle.router.proofs.run.open.Statement.{statement}
 use Rattle.router.proofs.run.open.Tie as tie

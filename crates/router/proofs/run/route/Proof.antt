@@ -5,7 +5,7 @@ use mathlib.Core.Bool.{Bool, true}
 use native.Mathlib.Omega.{arith}
 use borrow.Author.Tests.{not-false, not-true}
 use Rattle.chars.proofs.Laws.Parts.{run-le}
-use Rattle.table.specs.Load.{loadAnswer}
+use Rattle.table_load.specs.Load.{loadAnswer}
 use Rattle.router.specs.Run.{RoutingFrom}
 use Rattle.router.proofs.Laws.Run.{routing-more, routing-then, went-skip}
 use Prim.Native.Nat.{_≤_, _<_}

@@ -8,7 +8,7 @@ use native.Mathlib.Omega.{arith}
 use lib.ListN.{length, take, drop, length-drop}
 use Rattle.chars.specs.Parts.{run}
 use Rattle.chars.proofs.Laws.Parts.{run-le}
-use Rattle.table.specs.Load.{loadAnswer}
+use Rattle.table_load.specs.Load.{loadAnswer}
 use Rattle.router_line.specs.Line.{lineAnswer}
 use Rattle.router.specs.Run.{Went}
 use Rattle.router_line.proofs.Laws.Line.{wrote-as}

@@ -1,7 +1,7 @@
 -- `router_line::line::answer_address` meets its contract.
 -- Assumes nothing.
 use mathlib.Core.Path.{sym, ap}
-use Rattle.table.specs.Load.{loadAnswer}
+use Rattle.table_load.specs.Load.{loadAnswer}
 use Rattle.table.specs.Rows.{tableAt}
 use Rattle.table.specs.declared.load.TableRead.{TableRead}
 use Rattle.mapping.specs.Results.{malformedRecord}

@@ -2,7 +2,7 @@
 -- Assumes nothing.
 use native.Mathlib.Omega.{arith}
 use lib.ListN.{drop, getD, length, take, length-drop}
-use Rattle.table.specs.Load.{loadAnswer}
+use Rattle.table_load.specs.Load.{loadAnswer}
 use Rattle.router_line.specs.Line.{lineAnswer, refusedLine, taggedLine}
 use Rattle.router_line.proofs.Laws.Line.{line-over, line-short, line-tagged, line-untabbed, wrote-as}
 use mathlib.Core.Path.{ap, _∙_}

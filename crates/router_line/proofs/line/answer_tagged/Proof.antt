@@ -1,6 +1,6 @@
 -- `router_line::line::answer_tagged` meets its contract.
 -- Assumes nothing.
-use Rattle.table.specs.Load.{loadAnswer}
+use Rattle.table_load.specs.Load.{loadAnswer}
 use Rattle.mapping.specs.ToRecord.{toRecordBy}
 use Rattle.router_line.specs.Line.{recordLine, refusedLine, taggedLine, textLine}
 use Rattle.router_line.proofs.Laws.Line.{tagged-address, tagged-other, tagged-text, wrote-as}

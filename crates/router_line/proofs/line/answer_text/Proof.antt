@@ -2,7 +2,7 @@
 -- Assumes nothing.
 use mathlib.Core.Path.{sym, ap, _∙_}
 use Rattle.table.specs.Lines.{wellFormed}
-use Rattle.table.specs.Load.{loadAnswer}
+use Rattle.table_load.specs.Load.{loadAnswer}
 use Rattle.table.specs.declared.load.TableRead.{TableRead}
 use Rattle.mapping.specs.Answers.{outward}
 use Rattle.router_line.specs.Line.{refusedLine, textLine}

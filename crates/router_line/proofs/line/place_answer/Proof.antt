@@ -7,10 +7,11 @@ use native.Mathlib.Omega.{arith}
 use lib.ListN.{length}
 use lib.Seq.{length-take-le}
 use Rattle.chars.proofs.Laws.Write.{wrote-length, wrote-taken}
-use Rattle.table.specs.Load.{loadAnswer}
+use Rattle.table_load.specs.Load.{loadAnswer}
 use Rattle.router_line.specs.Line.{lineAnswer}
 use Rattle.router_line.specs.Ready.{Placed}
-use Rattle.router_line.proofs.Laws.Line.{answer-length, ready-formed}
+use Rattle.table_load.proofs.Laws.Ready.{ready-formed}
+use Rattle.router_line.proofs.Laws.Line.{answer-length}
 use borrow.Author.Needs.{needs}
 use Rattle.router_line.proofs.line.place_answer.Statement.{statement}
 use Rattle.router_line.proofs.line.place_answer.Tie as tie

@@ -25,7 +25,7 @@ loop-holds : tie.Need-loop-holds Inv-loop μ-loop
 loop-holds c = (omega arith, λ j h. absurd (omega arith))
 
 row-at-requires : tie.Need-row-at-requires Inv-loop μ-loop
-row-at-requires c κs = omega (arith, c .before .before .before .before .before .before .pre .kept .domains .fits)
+row-at-requires c κs = omega (arith, c .before .before .before .before .before .before .pre .kept .domains .inside .fits)
 
 judge-under-requires : tie.Need-judge-under-requires Inv-loop μ-loop
 judge-under-requires c κs =
@@ -35,7 +35,7 @@ judge-under-requires c κs =
     rw (c .row-at .ensures) (
       start .pre,
       record {
-        inside = start .pre .kept .domains .each i (omega arith);
+        inside = start .pre .kept .domains .inside .each i (omega arith);
         member = domain-member (a .text .now) (a .to-path .now) (a .to-domain .now) (a .table) i (omega arith);
       },
     )

@@ -25,7 +25,7 @@ loop-holds : tie.Need-loop-holds Inv-loop μ-loop
 loop-holds c = (omega arith, λ j h. absurd (omega arith))
 
 row-at-requires : tie.Need-row-at-requires Inv-loop μ-loop
-row-at-requires c κs = omega (arith, c .before .before .before .before .before .before .pre .kept .domains .fits)
+row-at-requires c κs = omega (arith, c .before .before .before .before .before .before .pre .kept .domains .inside .fits)
 
 judge-row-requires : tie.Need-judge-row-requires Inv-loop μ-loop
 unfolding tableAt
@@ -36,7 +36,7 @@ judge-row-requires c κs =
     let e = sym (c .row-at .ensures) in (
       start .pre,
       record {
-        inside = subst (RowInside (a .text .now)) e (start .pre .kept .domains .each i (omega arith));
+        inside = subst (RowInside (a .text .now)) e (start .pre .kept .domains .inside .each i (omega arith));
         member = subst (λ (p : Places). List·Memᴰ (rowAt (a .text .now) p) (rowsAt (a .text .now) (a .to-domain .now) (a .table .«to_domain»))) e
             (rows-member (a .text .now) (a .to-domain .now) (a .table .«to_domain») i (omega arith));
       },

@@ -46,7 +46,7 @@ part-mark-domain-start : tie.Need-part-mark-domain-start Inv-loop μ-loop
 part-mark-domain-start c = omega (arith, inside (c .before) .domain)
 
 part-mark-domain-end : tie.Need-part-mark-domain-end Inv-loop μ-loop
-part-mark-domain-end c = let p = inside (c .before) in omega (arith, p .apart, p .path, p .within)
+part-mark-domain-end c = let p = inside (c .before) in omega (arith, p .within-domain)
 
 mark-domain-requires : tie.Need-mark-domain-requires Inv-loop μ-loop
 mark-domain-requires c κs = tt

@@ -1,5 +1,4 @@
--- `soundness_judge::judge::judge_pair` meets its contract: a domain that is no longer than the row's, or does not lie under it, or whose parts
--- can not be levels, asks for nothing; else the candidate is what `judge` judges.
+-- `soundness_judge::judge::judge_pair` meets its contract: a domain that does not lie under the row's, or whose parts can not be levels, asks for nothing; else the candidate is what `judge` judges.
 -- Assumes nothing.
 use mathlib.Core.Path.{_≡_, sym, ap, _∙_}
 use mathlib.Core.Bool.{true}
@@ -22,7 +21,8 @@ use Rattle.table_settle.proofs.Laws.Settle.{answer-is, left-drop}
 use Rattle.mapping.specs.ToAddress.{isCarrier}
 use Rattle.soundness.specs.Check.{SecondBack, candidateOf}
 use Rattle.soundness.specs.Sound.{comesBack}
-use Rattle.soundness.proofs.Laws.Candidates.{second-back, second-bound, second-candidate, second-named, second-none, second-short, second-units}
+use Rattle.soundness.proofs.Laws.Candidates.{second-back, second-bound, second-candidate, second-named, second-units}
+use Rattle.soundness_judge.proofs.Laws.{not-under, under-longer, under-tail}
 use Rattle.soundness.proofs.Laws.Judged.{judged-sound, judged-then, row-length, settled-some}
 use borrow.Author.Needs.{needs}
 use Rattle.soundness_judge.proofs.judge.judge_pair.Statement.{statement}
@@ -30,37 +30,39 @@ use Rattle.soundness_judge.proofs.judge.judge_pair.Tie as tie
 
 returns : tie.Need-returns
 returns c =
+    let a = c .before .before .before .before .before .before .before .args in
+    let t : Table = tableAt (a .text .now) (a .to-path .now) (a .to-domain .now) (a .table) in
+    let r : Row = rowAt (a .text .now) (a .row) in
+    let d : List ℕ = a .domain .now in
+    judged-sound t (SecondBack t r d) (c .sound .result) (c .sound .ensures) (not-under t r d (failed (c .before .before .is-under .ensures) (c .before .if1 .taken)))
+
+settle-row-requires : tie.Need-settle-row-requires
+settle-row-requires c κs =
     let start = c .before .before .before .before .before .before in
     let a = start .args in
-    let t : Table = tableAt (a .text .now) (a .to-path .now) (a .to-domain .now) (a .table) in
-    let r : Row = rowAt (a .text .now) (a .row) in
-    let d : List ℕ = a .domain .now in
-    judged-sound t (SecondBack t r d) (c .sound .result) (c .sound .ensures)
-    (second-short t r d (omega (arith, row-length (a .text .now) (a .row) (start .pre .1 .0 .inside))))
-
-returns-2 : tie.Need-returns-2
-unfolding rowAt
-returns-2 c =
-    let a = c .before .before .before .before .before .before .before .before .args in
-    let t : Table = tableAt (a .text .now) (a .to-path .now) (a .to-domain .now) (a .table) in
-    let r : Row = rowAt (a .text .now) (a .row) in
-    let d : List ℕ = a .domain .now in
-    judged-sound t (SecondBack t r d) (c .sound2 .result) (c .sound2 .ensures) (second-none t r d (failed (c .before .before .is-tail .ensures) (c .before .if2 .taken)))
+    let i = start .pre .1 .0 .inside in (
+      i,
+      omega (
+        arith,
+        row-length (a .text .now) (a .row) i,
+        under-longer (rowAt (a .text .now) (a .row) .domain) (a .domain .now) (passed (c .before .is-under .ensures) (c .if1 .left)),
+      ),
+    )
 
 -- the parts left of the domain
-cut : (c : tie.After-settle-row) → let a = c .before .before .before .before .before .before .before .before .args in
+cut : (c : tie.After-settle-row) → let a = c .before .before .before .before .before .before .before .args in
     drop (length (partsOf (rowAt (a .text .now) (a .row) .domain))) (partsOf (a .domain .now))
     ≡ leftParts (a .domain .now) (length (a .domain .now) - (a .row .«domain_end» - a .row .domain))
 unfolding rowAt
 cut c =
-    let start = c .before .before .before .before .before .before .before .before in
+    let start = c .before .before .before .before .before .before .before in
     let a = start .args in
     let d : List ℕ = a .domain .now in
-    left-drop (rowAt (a .text .now) (a .row) .domain) d (passed (c .before .before .is-tail .ensures) (c .before .if2 .left))
+    left-drop (rowAt (a .text .now) (a .row) .domain) d (under-tail (rowAt (a .text .now) (a .row) .domain) d (passed (c .before .before .is-under .ensures) (c .before .if1 .left)))
     ∙ ap (λ (n : ℕ). leftParts d (length d - n)) (row-length (a .text .now) (a .row) (start .pre .1 .0 .inside))
 
 -- what they come to behind the row's path
-comes : (c : tie.After-settle-row) (x : Settled) → c .settle-row .result .answer ≡ x → let a = c .before .before .before .before .before .before .before .before .args in
+comes : (c : tie.After-settle-row) (x : Settled) → c .settle-row .result .answer ≡ x → let a = c .before .before .before .before .before .before .before .args in
     settledFrom (some (rowAt (a .text .now) (a .row) .path ++ leftParts (a .domain .now) (length (a .domain .now) - (a .row .«domain_end» - a .row .domain))))
     ≡ answerOf x (c .settle-row .result .«record»)
 comes c x e = sym (c .settle-row .ensures) ∙ answer-is (c .settle-row .result) x e
@@ -68,7 +70,7 @@ comes c x e = sym (c .settle-row .ensures) ∙ answer-is (c .settle-row .result)
 judge-requires : tie.Need-judge-requires
 judge-requires c κs =
     let at = c .before .before .before .before in
-    let start = at .before .before .before .before .before .before .before .before in
+    let start = at .before .before .before .before .before .before .before in
     let a = start .args in
     let t : Table = tableAt (a .text .now) (a .to-path .now) (a .to-domain .now) (a .table) in
     let r : Row = rowAt (a .text .now) (a .row) in
@@ -81,10 +83,10 @@ judge-requires c κs =
     let e : c .with-surname .result ≡ candidateOf (r .path ++ left) = c .with-surname .ensures ∙ second-named t (start .pre .0 .formed) r (start .pre .1 .0 .member) d (start .pre .1 .1) left (cut at) n q h in
     (start .pre .0, (ap canonicalRecord e ∙ k .canonical, ap (λ (x : Record). isCarrier t (view x)) e ∙ k .free))
 
-returns-3 : tie.Need-returns-3
-returns-3 c =
+returns-2 : tie.Need-returns-2
+returns-2 c =
     let at = c .before .before .before .before .before in
-    let start = at .before .before .before .before .before .before .before .before in
+    let start = at .before .before .before .before .before .before .before in
     let a = start .args in
     let t : Table = tableAt (a .text .now) (a .to-path .now) (a .to-domain .now) (a .table) in
     let r : Row = rowAt (a .text .now) (a .row) in
@@ -98,34 +100,34 @@ returns-3 c =
     (ap (comesBack t) (sym (c .before .with-surname .ensures)) ∙ b))
     (c .judge .ensures)
 
+returns-3 : tie.Need-returns-3
+returns-3 c = absurd (settled-some _ (comes (c .before .before .before .before) NoRow (c .before .enum-told2 .given .1)))
+
 returns-4 : tie.Need-returns-4
-returns-4 c = absurd (settled-some _ (comes (c .before .before .before .before) NoRow (c .before .enum-told2 .given .1)))
+returns-4 c =
+    let at = c .before .before .before .before in
+    let start = at .before .before .before .before .before .before .before in
+    let a = start .args in
+    let t : Table = tableAt (a .text .now) (a .to-path .now) (a .to-domain .now) (a .table) in
+    let r : Row = rowAt (a .text .now) (a .row) in
+    let d : List ℕ = a .domain .now in
+    let left : List Token = leftParts d (length d - (a .row .«domain_end» - a .row .domain)) in
+    judged-sound t (SecondBack t r d) (c .sound3 .result) (c .sound3 .ensures)
+    (second-units t (start .pre .0 .formed) r (start .pre .1 .0 .member) d (start .pre .1 .1) left (cut at) (comes at PastUnits (c .before .enum-told3 .given .1)))
 
 returns-5 : tie.Need-returns-5
 returns-5 c =
     let at = c .before .before .before .before in
-    let start = at .before .before .before .before .before .before .before .before in
+    let start = at .before .before .before .before .before .before .before in
     let a = start .args in
     let t : Table = tableAt (a .text .now) (a .to-path .now) (a .to-domain .now) (a .table) in
     let r : Row = rowAt (a .text .now) (a .row) in
     let d : List ℕ = a .domain .now in
     let left : List Token = leftParts d (length d - (a .row .«domain_end» - a .row .domain)) in
     judged-sound t (SecondBack t r d) (c .sound4 .result) (c .sound4 .ensures)
-    (second-units t (start .pre .0 .formed) r (start .pre .1 .0 .member) d (start .pre .1 .1) left (cut at) (comes at PastUnits (c .before .enum-told3 .given .1)))
-
-returns-6 : tie.Need-returns-6
-returns-6 c =
-    let at = c .before .before .before .before in
-    let start = at .before .before .before .before .before .before .before .before in
-    let a = start .args in
-    let t : Table = tableAt (a .text .now) (a .to-path .now) (a .to-domain .now) (a .table) in
-    let r : Row = rowAt (a .text .now) (a .row) in
-    let d : List ℕ = a .domain .now in
-    let left : List Token = leftParts d (length d - (a .row .«domain_end» - a .row .domain)) in
-    judged-sound t (SecondBack t r d) (c .sound5 .result) (c .sound5 .ensures)
     (second-bound t (start .pre .0 .formed) r (start .pre .1 .0 .member) d (start .pre .1 .1) left (cut at) (comes at PastBound (c .before .enum-told4 .given .1)))
 
 pub judge-pair-spec : {M : Type 1} → statement M
-judge-pair-spec = tie.close (tie.spec (λ c. search needs) (λ c κs. search needs) returns (λ c κs. search needs) (λ c κs. search needs) returns-2
-    (λ c κs. search needs) (λ c. search needs) (λ c κs. search needs) judge-requires (λ c. search needs) (λ c κs. search needs) (λ c. search needs)
-    (λ c κs. search needs) (λ c. search needs) (λ c κs. search needs) returns-3 returns-4 returns-5 returns-6)
+judge-pair-spec = tie.close (tie.spec (λ c κs. search needs) (λ c κs. search needs) returns settle-row-requires (λ c. search needs)
+    (λ c κs. search needs) judge-requires (λ c. search needs) (λ c κs. search needs) (λ c. search needs) (λ c κs. search needs) (λ c. search needs)
+    (λ c κs. search needs) returns-2 returns-3 returns-4 returns-5)

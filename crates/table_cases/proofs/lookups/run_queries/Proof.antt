@@ -3,7 +3,7 @@
 use borrow.Author.Needs.{needs}
 use Prim.Native.Nat.{_≤_, _-_}
 use lib.ListN.{length}
-use Rattle.table.specs.Load.{Kept}
+use Rattle.table_load.specs.Load.{Kept}
 use Rattle.table_cases.proofs.lookups.run_queries.Statement.{statement}
 use Rattle.table_cases.proofs.lookups.run_queries.Tie as tie
 

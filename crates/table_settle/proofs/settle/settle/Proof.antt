@@ -12,7 +12,7 @@ use Rattle.table_lookup.specs.Lookup.{byDomain}
 use Rattle.table_lookup.specs.Looked.{Looked}
 use Rattle.table_settle.specs.Settle.{leftParts, settledFrom}
 use Rattle.table.specs.declared.line.Row.{Row}
-use Rattle.table_lookup.specs.declared.lookup.Found.the-variants.{At}
+use Rattle.table_lookup.specs.declared.search.Found.the-variants.{At}
 use Rattle.table_settle.specs.declared.settle.Settled.the-variants.{NoRow}
 use Rattle.table_settle.proofs.Laws.Settle.{answer-is, found-fits, settling-none, settling-row}
 use borrow.Author.Needs.{needs}
@@ -33,7 +33,7 @@ found c = rw (c .i .given .1) at (c .before .before .find-domain .ensures)
 row-at-requires : tie.Need-row-at-requires
 row-at-requires c κs =
     let start = c .before .before .before .before .before .before .before in
-    omega (arith, found (c .before) .below, start .pre .fits)
+    omega (arith, found (c .before) .below, start .pre .inside .fits)
 
 settle-row-requires : tie.Need-settle-row-requires
 settle-row-requires c κs =
@@ -43,7 +43,7 @@ settle-row-requires c κs =
     let i = at .i .given .0 .0 in
     let h = found at in
     rw (c .row-at .ensures)
-    (start .pre .each i (h .below), found-fits (a .text .now) (a .rows .now) (a .domain .now) (a .n) (start .pre) i h)
+    (start .pre .inside .each i (h .below), found-fits (a .text .now) (a .rows .now) (a .domain .now) (a .n) (start .pre .inside) i h)
 
 enum-told : tie.Need-enum-told
 enum-told c = search needs
@@ -59,7 +59,7 @@ returns c =
     let d = a .domain .now in
     c .settle-row .ensures
     ∙ ap (λ (p : Row). settledFrom (some (rowAt (a .text .now) p .path ++ leftParts d (length d - (p .«domain_end» - p .domain))))) (c .before .row-at .ensures)
-    ∙ settling-row (a .text .now) (a .rows .now) d (a .n) (start .pre) (at .i .given .0 .0) (found at)
+    ∙ settling-row (a .text .now) (a .rows .now) d (a .n) (start .pre .inside) (at .i .given .0 .0) (found at)
 
 returns-2 : tie.Need-returns-2
 returns-2 c =

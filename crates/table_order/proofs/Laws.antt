@@ -1,0 +1,5 @@
+pub mod Compare
+pub mod Insert
+pub mod Order
+pub mod Place
+pub mod Spell

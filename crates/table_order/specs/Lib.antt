@@ -1,0 +1,3 @@
+pub mod Insert
+pub mod Order
+pub mod Place
