@@ -83,9 +83,9 @@ fn next_under(text: &[u8], to_path: &[usize], n: usize, row: Row, from: usize) -
     let mut i = from;
     while i < n {
         let target = row_at(to_path, i);
-        let c = target.domain;
-        let d = target.domain_end;
-        if is_under(text, row, &text[c..d]) {
+        let a = target.domain;
+        let b = target.domain_end;
+        if is_under(text, row, &text[a..b]) {
             return i;
         }
         i += 1;

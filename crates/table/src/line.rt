@@ -67,7 +67,7 @@ fn are_fields(text: &[u8], at: usize, end: usize, k: usize, left: usize) -> bool
 }
 
 // Whether a region of the text is a path: two to eight fields.
-fn is_path(text: &[u8], at: usize, end: usize) -> bool
+pub fn is_path(text: &[u8], at: usize, end: usize) -> bool
     requires { ⌜ at ≤ end ⌝ }
     requires { ⌜ end ≤ length (now text) ⌝ }
     ensures { λ r. ⌜ r ≡ isPath (fieldsAt (now (text .entry)) at end) ⌝ }

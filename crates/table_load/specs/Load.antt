@@ -51,14 +51,14 @@ Joining s before k r Bad ds rs = isNewIn before k r ≡ false
 -- ---- a line
 
 -- What adding a line's row to a table comes to: the line is not bad and its row joins the others, or it is bad.
-pub record Joined (s : List ℕ) (before : Table) (from end : ℕ) (ds rs : List ℕ) (t : loaded.Loaded.Loaded) : Type 0 where
-  pub good : badRow before (lineAt s from end) ≡ false
-  pub table : tableAt s ds rs t ≡ withRow before (split 9 (between s from end))
+pub record Joined (s : List ℕ) (before : Table) (l : lines.Line) (ds rs : List ℕ) (t : loaded.Loaded.Loaded) : Type 0 where
+  pub good : badRow before l ≡ false
+  pub table : tableAt s ds rs t ≡ withRow before (split 9 (l .text))
   pub kept : Kept s ds rs t
 
-abbrev pub Adding : List ℕ → Table → ℕ → ℕ → load.RowAdded.RowAdded → List ℕ → List ℕ → Type 0
-Adding s before from end (Added t) ds rs = Joined s before from end ds rs t
-Adding s before from end Bad ds rs = badRow before (lineAt s from end) ≡ true
+abbrev pub Adding : List ℕ → Table → lines.Line → load.RowAdded.RowAdded → List ℕ → List ℕ → Type 0
+Adding s before l (Added t) ds rs = Joined s before l ds rs t
+Adding s before l Bad ds rs = badRow before l ≡ true
 
 -- the answer for a row that is new, or is not
 abbrev pub addedIf : Bool → loaded.Loaded.Loaded → load.RowAdded.RowAdded

@@ -14,7 +14,7 @@ ghost use mathlib.Core.Path.{_≡_};
 ghost use Prim.Native.Nat.{_+_, _≤_, _<_};
 ghost use lib.ListN.{length};
 ghost use Rattle.table.specs.Lines.{loadedFrom, mostRows, readRows};
-ghost use Rattle.table.specs.Rows.{RowInside, bareTable, linesFrom, rowAt, rowsSize, tableAt};
+ghost use Rattle.table.specs.Rows.{RowInside, bareTable, lineAt, linesFrom, rowAt, rowsSize, tableAt};
 ghost use Rattle.table_load.specs.Load.{Adding, Joining, Kept, Loading, addedIf};
 
 pub const LONGEST_TABLE: usize = 65536;
@@ -82,7 +82,8 @@ fn add_row(
     requires { ⌜ from ≤ end ⌝ }
     requires { ⌜ end ≤ length (now text) ⌝ }
     ensures { λ r. ⌜ Adding (now (text .entry))
-        (tableAt (now (text .entry)) (now («to_path» .entry)) (now («to_domain» .entry)) table) from end r (now («to_path» .exit)) (now («to_domain» .exit)) ⌝ }
+        (tableAt (now (text .entry)) (now («to_path» .entry)) (now («to_domain» .entry)) table) (lineAt (now (text .entry)) from end) r
+        (now («to_path» .exit)) (now («to_domain» .exit)) ⌝ }
 {
     if MOST_ROWS <= table.to_path + table.to_domain {
         return RowAdded::Bad;

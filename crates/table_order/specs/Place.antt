@@ -4,8 +4,8 @@
 use mathlib.Core.Path.{_≡_}
 use mathlib.Core.Bool.{true, false, cond}
 use mathlib.Core.List.{List}
-use Prim.Native.Nat.{ℕ, suc, _+_, _*_, _≤_, _<_}
-use lib.Dec.{leb}
+use Prim.Native.Nat.{ℕ, suc, _+_, _-_, _*_, _≤_, _<_}
+use lib.Dec.{leb, ltb}
 use lib.ListN.{length, getD}
 use Rattle.table.specs.Table.{Token}
 use Rattle.table.specs.Keys.{keyText}
@@ -13,6 +13,8 @@ use Rattle.table.specs.Lines.{mostRows}
 use Rattle.table.specs.Rows.{Inside, RowInside, orderStart, placesAt}
 use Rattle.table.specs.declared.rows.Key.{Key}
 use Rattle.table_order.specs.Order.{keyTokens, keyUpTo, shared, spellBy, under}
+use Rattle.table_order.specs.declared.compare.ByRank.{ByRank}
+use Rattle.table_order.specs.declared.compare.ByRank.the-variants.{Greater, Less, Same}
 use Rattle.table_order.specs.declared.compare.Compared.{Compared}
 use Rattle.table_order.specs.declared.place.Place.{Place}
 use Rattle.table_order.specs.declared.place.Range.{Range}
@@ -52,6 +54,10 @@ pub record Comparing (p q : List ℕ) (r : Compared) : Type 0 where
   pub many : r .shared ≡ shared p q
   pub less : r .under ≡ under p q
 
+-- how two ranks compare
+unfoldable pub byRank : ℕ → ℕ → ByRank
+byRank p q = cond (ltb p q) Less (cond (ltb q p) Greater Same)
+
 unfoldable pub lesser : ℕ → ℕ → ℕ
 lesser a b = cond (leb a b) a b
 
@@ -77,3 +83,18 @@ pub record Within (K : ℕ → List ℕ) (n : ℕ) (q : List ℕ) (r : Range) : 
   pub lowBeside : (k : ℕ) → suc k ≡ r .lo → shared (K k) q ≡ r .low
   pub highNone : r .hi ≡ n → r .high ≡ 0
   pub highBeside : r .hi < n → shared (K (r .hi)) q ≡ r .high
+
+-- a smaller range that the search is in
+pub record Narrowed (K : ℕ → List ℕ) (n : ℕ) (q : List ℕ) (old new : Range) : Type 0 where
+  pub within : Within K n q new
+  pub less : new .hi - new .lo < old .hi - old .lo
+
+-- how many bytes are compared at a time where they are likely to be equal
+abbrev pub blockSize : ℕ
+blockSize = 16
+
+-- Two texts are equal from a place up to another, which is no further than an end.
+pub record EqualUpTo (a b : List ℕ) (from end r : ℕ) : Type 0 where
+  pub onward : from ≤ r
+  pub within : r ≤ end
+  pub equal : (j : ℕ) → from ≤ j → j < r → getD a j 0 ≡ getD b j 0

@@ -3,11 +3,14 @@
 use chars::case::fold_case;
 use table::rows::Key;
 ghost use mathlib.Core.Path.{_≡_};
+ghost use mathlib.Core.Bool.{true, _&&_};
 ghost use Prim.Native.Nat.{_≤_, _<_};
-ghost use lib.Dec.{eqb};
 ghost use lib.ListN.{getD, length};
 ghost use Rattle.table_order.specs.Order.{rank, readBy, separator, shared, spellBy};
-ghost use Rattle.table_order.specs.Place.{Comparing, lesser};
+ghost use Rattle.table_order.specs.Place.{Comparing, EqualUpTo, blockSize, byRank, lesser};
+
+// How many bytes are compared at a time where they are likely to be equal.
+const BLOCK_SIZE: usize = 16;
 
 // How two keys compare: how many ranks they share, and whether the first is not over the second.
 pub struct Compared {
@@ -57,14 +60,78 @@ fn rank_of(sep: u8, b: u8) -> usize
     wide(fold_case(b)) + 1
 }
 
-// Whether two bytes have one rank. Equal bytes do, which is asked first since most are.
-fn same_rank(sep: u8, x: u8, y: u8) -> bool
-    ensures { λ r. ⌜ r ≡ eqb (rank sep x) (rank sep y) ⌝ }
+// How two bytes compare by rank.
+pub enum ByRank {
+    Same,
+    Less,
+    Greater,
+}
+
+// Equal bytes have one rank, which is asked first since most are equal.
+fn compare_bytes(sep: u8, x: u8, y: u8) -> ByRank
+    ensures { λ r. ⌜ r ≡ byRank (rank sep x) (rank sep y) ⌝ }
 {
     if x == y {
-        return true;
+        return ByRank::Same;
     }
-    rank_of(sep, x) == rank_of(sep, y)
+    let p = rank_of(sep, x);
+    let q = rank_of(sep, y);
+    if p < q {
+        return ByRank::Less;
+    }
+    if q < p {
+        return ByRank::Greater;
+    }
+    ByRank::Same
+}
+
+fn both(a: bool, b: bool) -> bool
+    ensures { λ r. ⌜ r ≡ (a && b) ⌝ }
+{
+    if a { b } else { false }
+}
+
+// Whether two blocks of bytes are equal. All are looked at, also behind one that differs: the loop then has no branch, and takes all of
+// them at a time.
+fn equal_block(a: &[u8], b: &[u8]) -> bool
+    requires { ⌜ (length (now a) ≡ blockSize) × (length (now b) ≡ blockSize) ⌝ }
+    ensures { λ r. ⌜ (r ≡ true → EqualUpTo (now (a .entry)) (now (b .entry)) 0 blockSize blockSize) ⌝ }
+{
+    let mut same = true;
+    let mut i = 0;
+    while i < BLOCK_SIZE {
+        same = both(same, a[i] == b[i]);
+        i += 1;
+    }
+    same
+}
+
+// How far two texts are equal from a place on, by whole blocks.
+fn equal_blocks(a: &[u8], b: &[u8], from: usize, end: usize) -> usize
+    requires { ⌜ (from ≤ end) × (end ≤ length (now a)) × (end ≤ length (now b)) ⌝ }
+    ensures { λ r. ⌜ EqualUpTo (now (a .entry)) (now (b .entry)) from end r ⌝ }
+{
+    let mut i = from;
+    while BLOCK_SIZE <= end - i {
+        let next = i + BLOCK_SIZE;
+        if !equal_block(&a[i..next], &b[i..next]) {
+            return i;
+        }
+        i = next;
+    }
+    i
+}
+
+// How many ranks two keys share, so far as whole blocks of equal bytes tell. Paths are long, and much alike; domains are short.
+fn pass_equal(key: Key, a: &[u8], b: &[u8], from: usize, end: usize) -> usize
+    requires { ⌜ (end ≤ length (now a)) × (end ≤ length (now b)) ⌝ }
+    requires { ⌜ (from ≤ end) × (from ≤ shared (spellBy key (now a)) (spellBy key (now b))) ⌝ }
+    ensures { λ r. ⌜ (r ≤ end) × (r ≤ shared (spellBy key (now (a .entry))) (spellBy key (now (b .entry)))) ⌝ }
+{
+    match key {
+        Key::Domain => from,
+        Key::Path => equal_blocks(a, b, from, end),
+    }
 }
 
 // Two keys compared, the first `from` ranks of which are known to be shared.
@@ -74,15 +141,24 @@ pub fn compare(key: Key, a: &[u8], b: &[u8], from: usize) -> Compared
 {
     let sep = separator_of(key);
     let end = least(a.len(), b.len());
-    let mut i = from;
+    let mut i = pass_equal(key, a, b, from, end);
     while i < end {
         let x = byte_by(key, a, i);
         let y = byte_by(key, b, i);
-        if !same_rank(sep, x, y) {
-            return Compared {
-                shared: i,
-                under: rank_of(sep, x) < rank_of(sep, y),
-            };
+        match compare_bytes(sep, x, y) {
+            ByRank::Same => {}
+            ByRank::Less => {
+                return Compared {
+                    shared: i,
+                    under: true,
+                };
+            }
+            ByRank::Greater => {
+                return Compared {
+                    shared: i,
+                    under: false,
+                };
+            }
         }
         i += 1;
     }

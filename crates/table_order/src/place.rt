@@ -12,7 +12,7 @@ ghost use Prim.Native.Nat.{_+_, _*_, _≤_, _<_};
 ghost use lib.ListN.{length};
 ghost use Rattle.table.specs.Rows.{orderStart, placesAt};
 ghost use Rattle.table_order.specs.Order.{shared, spellBy};
-ghost use Rattle.table_order.specs.Place.{Comparing, Ordered, PlaceFound, Within, numberIn, ranksIn};
+ghost use Rattle.table_order.specs.Place.{Comparing, Narrowed, Ordered, PlaceFound, Within, numberIn, ranksIn};
 
 // How far a search came: how many keys are not over the query, and how many ranks the last of them shares with it.
 pub struct Place {
@@ -59,52 +59,33 @@ fn compare_at(
     compare(key, &text[a..b], query, from)
 }
 
-// The place of a query in a range of the order.
-fn place_from(text: &[u8], rows: &[usize], n: usize, key: Key, query: &[u8], range: Range) -> Place
+// One step of halving: the key in the middle of the range is compared with the query, and half of the range is left.
+fn narrow(text: &[u8], rows: &[usize], n: usize, key: Key, query: &[u8], range: Range) -> Range
     requires { ⌜ Ordered key (now text) (now rows) n ⌝ }
     requires { ⌜ Within (ranksIn key (now text) (now rows)) n (spellBy key (now query)) range ⌝ }
-    ensures { λ r. ⌜ PlaceFound (ranksIn key (now (text .entry)) (now (rows .entry))) n (spellBy key (now (query .entry))) r ⌝ }
+    requires { ⌜ range .lo < range .hi ⌝ }
+    ensures { λ r. ⌜ Narrowed (ranksIn key (now (text .entry)) (now (rows .entry))) n (spellBy key (now (query .entry))) range r ⌝ }
 {
     let lo = range.lo;
     let hi = range.hi;
     let low = range.low;
     let high = range.high;
-    if hi <= lo {
-        return Place {
-            at: lo,
-            shared: low,
-        };
-    }
     let mid = (lo + hi) / 2;
     let done = compare_at(text, rows, n, key, query, mid, least(low, high));
     if done.under {
-        return place_from(
-            text,
-            rows,
-            n,
-            key,
-            query,
-            Range {
-                lo: mid + 1,
-                hi,
-                low: done.shared,
-                high,
-            },
-        );
+        return Range {
+            lo: mid + 1,
+            hi,
+            low: done.shared,
+            high,
+        };
     }
-    place_from(
-        text,
-        rows,
-        n,
-        key,
-        query,
-        Range {
-            lo,
-            hi: mid,
-            low,
-            high: done.shared,
-        },
-    )
+    Range {
+        lo,
+        hi: mid,
+        low,
+        high: done.shared,
+    }
 }
 
 // The place of a query among the first n keys of the order.
@@ -112,17 +93,17 @@ pub fn place_key(text: &[u8], rows: &[usize], n: usize, key: Key, query: &[u8]) 
     requires { ⌜ Ordered key (now text) (now rows) n ⌝ }
     ensures { λ r. ⌜ PlaceFound (ranksIn key (now (text .entry)) (now (rows .entry))) n (spellBy key (now (query .entry))) r ⌝ }
 {
-    place_from(
-        text,
-        rows,
-        n,
-        key,
-        query,
-        Range {
-            lo: 0,
-            hi: n,
-            low: 0,
-            high: 0,
-        },
-    )
+    let mut range = Range {
+        lo: 0,
+        hi: n,
+        low: 0,
+        high: 0,
+    };
+    while range.lo < range.hi {
+        range = narrow(text, rows, n, key, query, range);
+    }
+    Place {
+        at: range.lo,
+        shared: range.low,
+    }
 }

@@ -2,16 +2,16 @@
 -- over the lines has left.
 -- Assumes nothing.
 use mathlib.Core.Path.{_≡_, refl, sym, ap, _∙_}
-use mathlib.Core.Bool.{Bool, true, false, not}
+use mathlib.Core.Bool.{Bool, true, false, _||_, not}
 use mathlib.Core.List.{List, []}
 use Prim.Native.Nat.{ℕ, _+_, _≤_, _<_}
 use native.Mathlib.Omega.{arith}
 use borrow.Author.Tests.{le-leb, lt-leb}
 use lib.ListN.{length, drop}
 use Rattle.chars.specs.Parts.{run, split}
-use Rattle.chars.proofs.Laws.Lists.{and-left}
+use Rattle.chars.proofs.Laws.Lists.{and-left, or-left, or-right}
 use Rattle.table.specs.Table.{Row, Table, Token}
-use Rattle.table.specs.Lines.{TableOutcome, badRow, hasTag, isNewRow, isRow, longestRowDomain, malformed, mostRows, readRows, rowOf, withRow}
+use Rattle.table.specs.Lines.{Line, TableOutcome, badRow, hasTag, isNewRow, isRow, longestRowDomain, malformed, mostRows, readRows, rowOf, withRow}
 use Rattle.table.specs.Rows.{RowFound, RowInside, bareTable, between, lineAt, linesFrom, rowAt, rowsAt, rowsFrom, rowsSize, tableAt}
 use Rattle.table.specs.declared.line as line
 use Rattle.table.specs.declared.load as loaded
@@ -76,38 +76,44 @@ module _ (t : Table) (fs : List Token) where
 
 -- ---- a line added
 
-module _ (s ds rs : List ℕ) (t : loaded.Loaded.Loaded) (from end : ℕ) where
+module _ (s ds rs : List ℕ) (t : loaded.Loaded.Loaded) (l : Line) where
   -- there are as many rows as may be
-  pub bad-full : mostRows ≤ t .«to_path» + t .«to_domain» → badRow (tableAt s ds rs t) (lineAt s from end) ≡ true
-  unfolding badRow tableAt lineAt
-  bad-full h = rw (length-rows s ds (t .«to_path»), length-rows s rs (t .«to_domain»), le-leb mostRows (t .«to_path» + t .«to_domain») h)
+  pub bad-full : mostRows ≤ t .«to_path» + t .«to_domain» → badRow (tableAt s ds rs t) l ≡ true
+  unfolding badRow tableAt
+  bad-full h =
+      rw (length-rows s ds (t .«to_path»), length-rows s rs (t .«to_domain»), le-leb mostRows (t .«to_path» + t .«to_domain») h)
+      (or-left (not (l .ended) || true) (not (isNewRow (tableAt s ds rs t) (split 9 (l .text)))) (or-right (not (l .ended)) true refl))
 
-  module _ (h : t .«to_path» + t .«to_domain» < mostRows) where
-    bad-new : badRow (tableAt s ds rs t) (lineAt s from end) ≡ not (isNewRow (tableAt s ds rs t) (split 9 (between s from end)))
-    unfolding badRow tableAt lineAt
-    bad-new = rw (length-rows s ds (t .«to_path»), length-rows s rs (t .«to_domain»), lt-leb mostRows (t .«to_path» + t .«to_domain») h)
+  -- it has no LF
+  pub bad-unended : l .ended ≡ false → badRow (tableAt s ds rs t) l ≡ true
+  unfolding badRow
+  bad-unended h = rw h
 
-    pub bad-neither : accepts 68 longestRowDomain (split 9 (between s from end)) ≡ false
-        → accepts 82 longestRowDomain (split 9 (between s from end)) ≡ false
-        → badRow (tableAt s ds rs t) (lineAt s from end) ≡ true
-    bad-neither g i = bad-new ∙ ap not (new-neither (tableAt s ds rs t) (split 9 (between s from end)) g i)
+  module _ (h : t .«to_path» + t .«to_domain» < mostRows) (e : l .ended ≡ true) where
+    bad-new : badRow (tableAt s ds rs t) l ≡ not (isNewRow (tableAt s ds rs t) (split 9 (l .text)))
+    unfolding badRow tableAt
+    bad-new = rw (e, length-rows s ds (t .«to_path»), length-rows s rs (t .«to_domain»), lt-leb mostRows (t .«to_path» + t .«to_domain») h)
+
+    pub bad-neither : accepts 68 longestRowDomain (split 9 (l .text)) ≡ false → accepts 82 longestRowDomain (split 9 (l .text)) ≡ false
+        → badRow (tableAt s ds rs t) l ≡ true
+    bad-neither g i = bad-new ∙ ap not (new-neither (tableAt s ds rs t) (split 9 (l .text)) g i)
 
     -- the row joins those of its key where that is new, and the line is bad where it is not
-    pub adding : (k : Key) {p : line.Row.Row} → Asked k (split 9 (between s from end))
-        → RowFound s from end (tagOf k) longestRowDomain p → (r : load.RowAdded.RowAdded) (ds′ rs′ : List ℕ)
-        → Joining s (tableAt s ds rs t) k (rowAt s p) r ds′ rs′ → Adding s (tableAt s ds rs t) from end r ds′ rs′
-    adding k n f (Added u) ds′ rs′ j =
-        let fs = split 9 (between s from end) in
+    pub adding : (k : Key) (p : line.Row.Row) → Asked k (split 9 (l .text)) → accepts (tagOf k) longestRowDomain (split 9 (l .text)) ≡ true
+        → rowAt s p ≡ rowOf (split 9 (l .text)) → (r : load.RowAdded.RowAdded) (ds′ rs′ : List ℕ)
+        → Joining s (tableAt s ds rs t) k (rowAt s p) r ds′ rs′ → Adding s (tableAt s ds rs t) l r ds′ rs′
+    adding k p n f g (Added u) ds′ rs′ j =
+        let fs = split 9 (l .text) in
         let before = tableAt s ds rs t in
         record {
-          good = bad-new ∙ ap not (new-keyed before fs k n (f .accepted) ∙ ap (isNewIn before k) (sym (f .row)) ∙ j .new);
-          table = j .table ∙ ap (withKeyed before k) (f .row) ∙ sym (with-keyed before fs k n (f .accepted));
+          good = bad-new ∙ ap not (new-keyed before fs k n f ∙ ap (isNewIn before k) (sym g) ∙ j .new);
+          table = j .table ∙ ap (withKeyed before k) g ∙ sym (with-keyed before fs k n f);
           kept = j .kept;
         }
-    adding k n f Bad ds′ rs′ j =
-        let fs = split 9 (between s from end) in
+    adding k p n f g Bad ds′ rs′ j =
+        let fs = split 9 (l .text) in
         let before = tableAt s ds rs t in
-        bad-new ∙ ap not (new-keyed before fs k n (f .accepted) ∙ ap (isNewIn before k) (sym (f .row)) ∙ j)
+        bad-new ∙ ap not (new-keyed before fs k n f ∙ ap (isNewIn before k) (sym g) ∙ j)
 
 -- the answer that a line is bad
 pub refused : {s ds rs : List ℕ} {l : TableOutcome} {n : ℕ} → l ≡ malformed n → Loading s l (Malformed n) ds rs
@@ -148,7 +154,7 @@ module _ {s : List ℕ} {start : Table} {from : ℕ} {ds rs : List ℕ} {t : loa
     pub progress-bad : e < length s → badRow (tableAt s ds rs t) (lineAt s at e) ≡ true → readRows 2 start (linesFrom s from) ≡ malformed line
     progress-bad h b = p .left ∙ rw (lines-next s at e q h) (read-bad line (tableAt s ds rs t) (lineAt s at e) (linesFrom s (e + 1)) b)
 
-    pub progress-step : {ds′ rs′ : List ℕ} {t′ : loaded.Loaded.Loaded} → e < length s → Joined s (tableAt s ds rs t) at e ds′ rs′ t′
+    pub progress-step : {ds′ rs′ : List ℕ} {t′ : loaded.Loaded.Loaded} → e < length s → Joined s (tableAt s ds rs t) (lineAt s at e) ds′ rs′ t′
         → Progress s start from ds′ rs′ t′ (e + 1) (line + 1)
     unfolding lineAt
     progress-step h j =
