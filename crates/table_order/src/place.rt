@@ -99,7 +99,7 @@ pub fn place_key(text: &[u8], rows: &[usize], n: usize, key: Key, query: &[u8]) 
         low: 0,
         high: 0,
     };
-    while range.lo < range.hi {
+    while 0 < range.hi - range.lo {
         range = narrow(text, rows, n, key, query, range);
     }
     Place {

@@ -117,7 +117,7 @@ gateway-formed l b =
     })
     (λ g. true-not-false (badGateway l) (or-right (not (l .ended)) (not (isGatewayLine fs)) (ap not g)) b)
 
-lines-formed : (l : Line) (ls : List Line) (t : Table) → readLines (l ∷ ls) ≡ wellFormed t → Formed t
+pub lines-formed : (l : Line) (ls : List Line) (t : Table) → readLines (l ∷ ls) ≡ wellFormed t → Formed t
 unfolding readLines
 lines-formed l ls t h =
     by-test (badGateway l)

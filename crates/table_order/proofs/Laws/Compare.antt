@@ -213,8 +213,8 @@ is-same p q =
     by-test (ltb p q)
     (λ e. rw (e, ne-eqb p q (λ h. omega (arith, h, ltb-true p q e))))
     (λ e. by-test (ltb q p)
-      (λ f. rw (e, f, ne-eqb p q (λ h. omega (arith, h, ltb-true q p f))))
-      (λ f. rw (e, f, eq-eqb p q (omega (arith, ltb-false p q e, ltb-false q p f)))))
+    (λ f. rw (e, f, ne-eqb p q (λ h. omega (arith, h, ltb-true q p f))))
+    (λ f. rw (e, f, eq-eqb p q (omega (arith, ltb-false p q e, ltb-false q p f)))))
 
 is-less : (p q : ℕ) → isLess (byRank p q) ≡ ltb p q
 unfolding byRank isLess

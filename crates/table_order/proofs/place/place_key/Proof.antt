@@ -1,7 +1,7 @@
 -- `table_order::place::place_key` meets its contract. The loop's invariant: the search is in the range.
 -- Assumes nothing.
 use Prim.Native.Nat.{_-_}
-use borrow.Author.Needs.{needs}
+use native.Mathlib.Omega.{arith}
 use Rattle.table_order.specs.Order.{spellBy}
 use Rattle.table_order.specs.Place.{Within, ranksIn}
 use Rattle.table_order.proofs.Laws.Insert.{ranks-rise}
@@ -18,8 +18,11 @@ abbrev μ-loop : tie.MeasureT-loop
 loop-holds : tie.Need-loop-holds Inv-loop μ-loop
 loop-holds c = let a = c .before .before .before .args in within-all (ranksIn (a .key) (a .text .now) (a .rows .now)) (a .n) (spellBy (a .key) (a .query .now))
 
+sub-if1 : tie.Need-sub-if1 Inv-loop μ-loop
+sub-if1 c = c .before .loop .inv .order
+
 narrow-requires : tie.Need-narrow-requires Inv-loop μ-loop
-narrow-requires c κs = (c .before .before .before .before .before .before .pre, (c .before .before .loop .inv, c .if1 .taken))
+narrow-requires c κs = (c .before .before .before .before .before .before .pre, (c .before .before .loop .inv, omega arith))
 
 loop-less : tie.Need-loop-less Inv-loop μ-loop
 loop-less c = c .narrow .ensures .less
@@ -32,7 +35,7 @@ returns c =
     let at = c .before .before in
     let start = at .before .before .before .before in
     let a = start .args in
-    within-end (ranksIn (a .key) (a .text .now) (a .rows .now)) (a .n) (spellBy (a .key) (a .query .now)) (ranks-rise (start .pre)) (at .loop .range) (at .loop .inv) (c .if1 .left)
+    within-end (ranksIn (a .key) (a .text .now) (a .rows .now)) (a .n) (spellBy (a .key) (a .query .now)) (ranks-rise (start .pre)) (at .loop .range) (at .loop .inv) (omega (arith, at .loop .inv .order))
 
 pub place-key-spec : {M : Type 1} → statement M
-place-key-spec = tie.close (tie.spec Inv-loop μ-loop loop-holds narrow-requires loop-less loop-again returns)
+place-key-spec = tie.close (tie.spec Inv-loop μ-loop loop-holds sub-if1 narrow-requires loop-less loop-again returns)
