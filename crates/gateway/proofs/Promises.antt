@@ -55,12 +55,15 @@ use Rattle.mailbox.proofs.Laws.AddressSame.{address-needless, address-same}
 use Rattle.mailbox.proofs.Laws.Again.{unnamed-text, written-again}
 use Rattle.mailbox.proofs.Laws.Bare.{written-meaning, written-shape}
 use Rattle.router.proofs.Laws.Calls.{call-moves, calls-whole}
-use Rattle.table_load.proofs.Laws.Ready.{loaded-rules}
+use Rattle.rowlist.specs.declared.RowEntry.{RowEntry}
+use Rattle.rowlist_load.proofs.Laws.FirstBad.{list-bad-first, list-first-bad, list-formed-well, list-well-formed}
+use Rattle.rowlist_load.proofs.Laws.Whole.{listed-front, same-table as listed-same}
+use Rattle.rowlist_load.proofs.Laws.Written.{written}
 use Rattle.gateway_mailbox.proofs.Laws.Mailboxes.{place-inside, result-inside}
 use Rattle.gateway_pack.proofs.Laws.Packed.{count-back, count-number, number-back, size-back}
 use Rattle.gateway_text.specs.Texts.{readOutcome, recordOfText, textOfRecord}
 use Rattle.gateway.specs.Exports.{addressToText, readingToAddress, textResult, textToAddress, textToAddressBy}
-use Rattle.gateway.specs.Promises.{Accepted, AddressRules, Dates, Demand1, Demand2, Demand3Exactly, EndsBuffer, EndsRecord, Judgement, Limits, MailboxRules, Mailboxes, Packing, Promises, RecordRules, Restricted, Returns, Router, SharedTails, Struct, withoutLine}
+use Rattle.gateway.specs.Promises.{Accepted, AddressRules, Dates, Demand1, Demand2, Demand3Exactly, EndsBuffer, EndsRecord, Judgement, Limits, ListRules, MailboxRules, Mailboxes, Packing, Promises, RecordRules, Restricted, Returns, Router, SharedTails, Source, Struct, Texts, addressTo, recordTo, spelling, withoutLine}
 use native.Mathlib.Nat.{zero-add}
 use Rattle.chars.specs.Parts.{run}
 use Rattle.oraddr.specs.Add.{addDd, addSingle, addUnit, pushDd, pushUnit, setSingle}
@@ -69,10 +72,16 @@ use Rattle.mailaddr.specs.Tail.{sharedTail, tailPlace}
 use Rattle.mailaddr.proofs.Laws.Tail.{tail-drop, tail-longest, tail-place, tail-second, tail-suffix}
 use Rattle.soundness.proofs.Laws.Comes.{not-six-room, room-not-six}
 use Rattle.router.specs.Run.{called, ended}
-use Rattle.gateway.proofs.Laws.Entire.{addition-ends, short-shape, under-text, unshortened}
+use Rattle.gateway.proofs.Laws.Entire.{addition-ends, short-shape, source-formed, source-rules, under-table, unshortened}
 use Rattle.table.proofs.Laws.FirstBad.{bad-first, first-bad, formed-well, well-formed}
 use Rattle.mapping.proofs.Laws.Carried.{carried-is}
 use Rattle.gateway.proofs.Laws.Exports.{not-canonical}
+
+-- ---- a table text
+
+texts : Texts
+unfolding addressToRecord recordToAddress addressToText textToAddress
+texts = record { to-record = λ table s. refl; to-address = λ table r old. refl; address-text = λ table s old. refl; text-address = λ table s old. refl }
 
 -- ---- demand 1
 
@@ -175,15 +184,15 @@ written-ends r old =
     (λ c. rw c (left (4 ∷ 6 ∷ []) old 4 refl))
 
 pub demand1 : Demand1
-unfolding addressToRecord recordToAddress recordOfText addressToText textToAddress addSingle addUnit addDd
+unfolding recordOfText addSingle addUnit addDd
 demand1 =
     record {
-      to-record = λ table s. record-ends (loadedFrom table) s;
-      to-address = λ table r old. address-ends (loadedFrom table) r old;
+      to-record = λ table s. record-ends (spelling table) s;
+      to-address = λ table r old. address-ends (spelling table) r old;
       read-record = λ s. outcome-ends (readText keys 0 emptyRecord s);
       write-record = written-ends;
-      address-text = λ table s old. text-ends (toRecordBy (loadedFrom table) s) old (record-ends (loadedFrom table) s);
-      text-address = λ table s old. sent-ends (loadedFrom table) s old;
+      address-text = λ table s old. text-ends (addressTo table s) old (record-ends (spelling table) s);
+      text-address = λ table s old. sent-ends (spelling table) s old;
       add = λ r k v. addition-ends (rule k v && eqb (getD (r .singles .values) k (valueOf []) .len) 0)
           (record { singles = setSingle (r .singles) k v; units = r .units; dds = r .dds }) r;
       add-unit = λ r v. addition-ends (isUnit v && ltb (r .units .count) most) (record { singles = r .singles; units = pushUnit (r .units) v; dds = r .dds }) r;
@@ -207,24 +216,24 @@ read-whole refused h = true-not-false (canonicalRecord emptyRecord) h not-canoni
 read-whole again h = true-not-false (canonicalRecord emptyRecord) h not-canonical
 read-whole (read r) h = refl
 
-module _ (table s : List ℕ) where
-  malformed-seven : (n : ℕ) → loadedFrom table ≡ malformed n → addressToRecord table s ≡ malformedRecord n
-  unfolding addressToRecord toRecordBy
+module _ (table : Source) (s : List ℕ) where
+  malformed-seven : (n : ℕ) → spelling table ≡ malformed n → addressTo table s ≡ malformedRecord n
+  unfolding toRecordBy
   malformed-seven n h = rw h
 
-  module _ (t : Table) (h : loadedFrom table ≡ wellFormed t) where
-    under : addressToRecord table s ≡ toRecord t s
-    under = under-text table s t h
+  module _ (t : Table) (h : spelling table ≡ wellFormed t) where
+    under : addressTo table s ≡ toRecord t s
+    under = under-table table s t h
 
-    by-shaping : (x : Shaping) → shaping s ≡ x → addressToRecord table s ≡ recordBy t s x
+    by-shaping : (x : Shaping) → shaping s ≡ x → addressTo table s ≡ recordBy t s x
     unfolding toRecord
     by-shaping x e = under ∙ ap (recordBy t s) e
 
-    long-two : longestAddress < length s → addressToRecord table s ≡ refusedRecord 2
+    long-two : longestAddress < length s → addressTo table s ≡ refusedRecord 2
     unfolding recordBy
     long-two l = by-shaping tooLong (long-shape s l)
 
-    shapeless-one : length s ≤ longestAddress → shapeOf s ≡ none → addressToRecord table s ≡ refusedRecord 1
+    shapeless-one : length s ≤ longestAddress → shapeOf s ≡ none → addressTo table s ≡ refusedRecord 1
     unfolding recordBy fromShape
     shapeless-one l e = by-shaping noShape (short-shape s none l e)
 
@@ -233,19 +242,19 @@ module _ (table s : List ℕ) where
       unfolding fromShape
       of-shape = short-shape s (some a) l e
 
-      is-carried : carriedWhole t a ≡ true → addressToRecord table s ≡ carrying (t .gateway .path) s
+      is-carried : carriedWhole t a ≡ true → addressTo table s ≡ carrying (t .gateway .path) s
       unfolding recordBy
       is-carried c = by-shaping (shaped a) of-shape ∙ rw c
 
-      coded-three : carriedWhole t a ≡ true → longestCoded < length (coded s) → addressToRecord table s ≡ refusedRecord 3
+      coded-three : carriedWhole t a ≡ true → longestCoded < length (coded s) → addressTo table s ≡ refusedRecord 3
       unfolding carrying
       coded-three c k = is-carried c ∙ rw (lt-ltb longestCoded (length (coded s)) k)
 
-      carried-whole : carriedWhole t a ≡ true → length (coded s) ≤ longestCoded → addressToRecord table s ≡ mapped (carrierOf (t .gateway .path) s)
+      carried-whole : carriedWhole t a ≡ true → length (coded s) ≤ longestCoded → addressTo table s ≡ mapped (carrierOf (t .gateway .path) s)
       unfolding carrying
       carried-whole c k = is-carried c ∙ rw (le-ltb longestCoded (length (coded s)) k)
 
-      is-read : carriedWhole t a ≡ false → addressToRecord table s ≡ mapped (recordIn (resultOf t a))
+      is-read : carriedWhole t a ≡ false → addressTo table s ≡ mapped (recordIn (resultOf t a))
       unfolding recordBy
       is-read c = by-shaping (shaped a) of-shape ∙ rw c
 
@@ -266,38 +275,38 @@ module _ (table s : List ℕ) where
         read-in = λ t a h l e c. (is-read t h a l e c, reads t h a l e c);
       }
 
-module _ (table : List ℕ) (r : Record) (old : List ℕ) where
-  sent-seven : (n : ℕ) → loadedFrom table ≡ malformed n → recordToAddress table r old ≡ malformedAddress n old
-  unfolding recordToAddress toAddressBy
+module _ (table : Source) (r : Record) (old : List ℕ) where
+  sent-seven : (n : ℕ) → spelling table ≡ malformed n → recordTo table r old ≡ malformedAddress n old
+  unfolding toAddressBy
   sent-seven n h = rw h
 
-  module _ (t : Table) (h : loadedFrom table ≡ wellFormed t) where
-    sent-under : recordToAddress table r old ≡ toAddress t r old
-    unfolding recordToAddress toAddressBy
+  module _ (t : Table) (h : spelling table ≡ wellFormed t) where
+    sent-under : recordTo table r old ≡ toAddress t r old
+    unfolding toAddressBy
     sent-under = rw h
 
-    sent-four : canonicalRecord r ≡ false → recordToAddress table r old ≡ refusedAddress 4 old
+    sent-four : canonicalRecord r ≡ false → recordTo table r old ≡ refusedAddress 4 old
     unfolding toAddress
     sent-four c = sent-under ∙ rw c
 
-    sent-by : (o : Option (List ℕ)) → canonicalRecord r ≡ true → addressOf t (view r) ≡ o → recordToAddress table r old ≡ placedIn old o
+    sent-by : (o : Option (List ℕ)) → canonicalRecord r ≡ true → addressOf t (view r) ≡ o → recordTo table r old ≡ placedIn old o
     unfolding toAddress
     sent-by o c e = sent-under ∙ rw (c, e)
 
-    sent-five : canonicalRecord r ≡ true → addressOf t (view r) ≡ none → recordToAddress table r old ≡ refusedAddress 5 old
+    sent-five : canonicalRecord r ≡ true → addressOf t (view r) ≡ none → recordTo table r old ≡ refusedAddress 5 old
     unfolding placedIn
     sent-five c e = sent-by none c e
 
     module _ (s : List ℕ) (c : canonicalRecord r ≡ true) (e : addressOf t (view r) ≡ some s) where
-      sent-placed : recordToAddress table r old ≡ placed s old
+      sent-placed : recordTo table r old ≡ placed s old
       unfolding placedIn
       sent-placed = sent-by (some s) c e
 
-      sent-six : length old < length s → recordToAddress table r old ≡ refusedAddress 6 old
+      sent-six : length old < length s → recordTo table r old ≡ refusedAddress 6 old
       unfolding placed
       sent-six k = sent-placed ∙ rw (lt-ltb (length old) (length s) k)
 
-      sent-done : length s ≤ length old → recordToAddress table r old ≡ record { number = 0; line = 0; size = length s; buffer = front s old }
+      sent-done : length s ≤ length old → recordTo table r old ≡ record { number = 0; line = 0; size = length s; buffer = front s old }
       unfolding placed
       sent-done k = sent-placed ∙ rw (le-ltb (length old) (length s) k)
 
@@ -311,16 +320,30 @@ module _ (table : List ℕ) (r : Record) (old : List ℕ) where
         done = λ t s h c e k. sent-done t h s c e k;
       }
 
+-- of a list
+list-rules : (s : List ℕ) (rows : List RowEntry) → ListRules s rows
+list-rules s rows =
+    record {
+      first-bad = list-first-bad s rows;
+      bad-first = list-bad-first s rows;
+      well-formed = list-well-formed s rows;
+      formed-well = list-formed-well s rows;
+      front = listed-front s rows;
+      same = λ table k l e f h. listed-same s table rows k l e f h;
+      written = written s rows;
+    }
+
 pub demand2 : Demand2
 unfolding fromShape
 demand2 =
     record {
       tables = λ table.
           record { first-bad = first-bad table; bad-first = bad-first table; well-formed = well-formed table; formed-well = formed-well table };
+      lists = list-rules;
       carried-exactly = λ t a. carried-is t a;
       to-record = record-rules;
       to-address = address-rules;
-      carried-back = λ table s old t a h l e c n m. carried-back-text table s old t a h (short-shape s (some a) l e) c n m;
+      carried-back = λ table s old t a h l e c n m. carried-back-text (spelling table) s old t a h (source-formed table t h) (short-shape s (some a) l e) c n m;
     }
 
 -- ---- demand 3
@@ -338,36 +361,36 @@ unfolding tableOf
 same-table t u h = ap (tableOf u) h
 
 -- what comes back under a table does so by the results under its text
-returned-under : (table : List ℕ) (t : Table) (r : Record) (old : List ℕ) → loadedFrom table ≡ wellFormed t → IsReturned t r (toAddress t r old)
+returned-under : (table : Source) (t : Table) (r : Record) (old : List ℕ) → spelling table ≡ wellFormed t → IsReturned t r (toAddress t r old)
     → Returns table r old
 returned-under table t r old h w =
     let o = toAddress t r old in
     let e = sent-under table r old t h in
     record {
       written = ap (λ (x : AddressResult). x .number) e ∙ w .done;
-      read = rw (e, under-text table (take (o .size) (o .buffer)) t h) (w .back .done, w .back .same);
+      read = rw (e, under-table table (take (o .size) (o .buffer)) t h) (w .back .done, w .back .same);
     }
 
 -- and the other way
-under-returned : (table : List ℕ) (t : Table) (r : Record) (old : List ℕ) → loadedFrom table ≡ wellFormed t → Returns table r old
+under-returned : (table : Source) (t : Table) (r : Record) (old : List ℕ) → spelling table ≡ wellFormed t → Returns table r old
     → IsReturned t r (toAddress t r old)
 under-returned table t r old h w =
     let o = toAddress t r old in
     let e = sent-under table r old t h in
-    let b = rw (e, under-text table (take (o .size) (o .buffer)) t h) at (w .read) in
+    let b = rw (e, under-table table (take (o .size) (o .buffer)) t h) at (w .read) in
     record { done = ap (λ (x : AddressResult). x .number) (sym e) ∙ w .written; back = record { done = b .0; same = b .1 } }
 
-module _ (table : List ℕ) (o : CheckResult) where
+module _ (table : Source) (o : CheckResult) where
   -- a sound table, by the results of the two mappings
-  all-return : (t u : Table) (r : Record) (old : List ℕ) → loadedFrom table ≡ wellFormed t → Sound t → loadedFrom table ≡ wellFormed u → Struct r
-      → canonicalRecord r ≡ true → isCarrier u (view r) ≡ false → (recordToAddress table r old .number ≡ 6 → ⊥) → Returns table r old
+  all-return : (t u : Table) (r : Record) (old : List ℕ) → spelling table ≡ wellFormed t → Sound t → spelling table ≡ wellFormed u → Struct r
+      → canonicalRecord r ≡ true → isCarrier u (view r) ≡ false → (recordTo table r old .number ≡ 6 → ⊥) → Returns table r old
   all-return t u r old e sound f s c free n =
       let z = same-table t u (sym e ∙ f) in
       let w = subst Sound z sound r (s .values) c free old
       (not-six-room u r old (λ k. n (ap (λ (x : AddressResult). x .number) (sent-under table r old u f) ∙ k))) in
       returned-under table u r old f w
 
-  judgement : (l : TableOutcome) → loadedFrom table ≡ l → Demand3 l o → Judgement table o
+  judgement : (l : TableOutcome) → spelling table ≡ l → Demand3 l o → Judgement table o
   unfolding member
   judgement (malformed n) e d =
       record {
@@ -423,7 +446,7 @@ module _ (table : List ℕ) (o : CheckResult) where
 pub demand3 : Demand3Exactly
 demand3 =
     record {
-      judges = λ table o d. judgement table o (loadedFrom table) refl d;
+      judges = λ table o d. judgement table o (spelling table) refl d;
       room = λ t r old. record { not-six = room-not-six t r old; has-room = not-six-room t r old };
     }
 
@@ -451,7 +474,7 @@ router =
       called = λ table kept chunk rest out old new over last r c k d. called over last kept chunk rest out old new r c k d;
       front = λ table s old new over last r c. written-front (c .went .text) old new (r .written) (c .went .wrote) (c .went .room);
       moves = λ table s old new over last r c k z.
-          let w = call-moves (loaded-rules table) c k z in
+          let w = call-moves (source-rules table) c k z in
           (no-separator s (w .unended), w .short, w .more);
     }
 
@@ -594,6 +617,7 @@ pub promises : Promises
 promises =
     record {
       limits = limits;
+      texts = texts;
       demand1 = demand1;
       demand2 = demand2;
       demand3 = demand3;

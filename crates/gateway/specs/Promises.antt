@@ -6,7 +6,7 @@
 use mathlib.Core.Path.{_≡_}
 use mathlib.Core.Logic.{_⊎_}
 use mathlib.Core.Bool.{Bool, true, false, cond, not}
-use mathlib.Core.List.{List, [], _∷_, _++_}
+use mathlib.Core.List.{List, [], _∷_, _++_, map}
 use mathlib.Core.Option.{none, some}
 use Prim.Native.Nat.{ℕ, _+_, _/_, _%_, _≤_, _<_}
 use lib.Dec.{eqb, ltb}
@@ -31,13 +31,15 @@ use Rattle.mailaddr.specs.Domain.{domainOf, partsOf}
 use Rattle.mailaddr.specs.Shape.{Address, longestAddress, shapeOf, unquotedLocal}
 use Rattle.mailaddr.specs.Tail.{shared, sharedTail, tailPlace}
 use Rattle.table.specs.FirstBad.{FirstBad, NoneBad}
-use Rattle.table.specs.Lines.{loadedFrom, longestGatewayDomain, longestRowDomain, longestTable, malformed, mostRows, tableLines, wellFormed}
+use Rattle.table.specs.Lines.{Line, TableOutcome, loadedFrom, longestGatewayDomain, longestRowDomain, longestTable, malformed, mostRows, tableLines, wellFormed}
 use Rattle.table.specs.Table.{Table}
+use Rattle.rowlist.specs.declared.RowEntry.{RowEntry}
+use Rattle.rowlist_load.specs.Listed.{entryLine, fieldsOf, linesText, listedFrom}
 use Rattle.mapping.specs.Answers.{isGood, readWell}
 use Rattle.mapping.specs.Carried.{carriedWhole, carrierOf, carrierType, longestCoded, resultOf}
-use Rattle.mapping.specs.Results.{AddressResult, malformedAddress, malformedRecord, mapped, refusedAddress, refusedRecord}
-use Rattle.mapping.specs.ToAddress.{addressOf, isCarrier, recordToAddress, toAddress}
-use Rattle.mapping.specs.ToRecord.{addressToRecord, recordIn}
+use Rattle.mapping.specs.Results.{AddressResult, RecordResult, malformedAddress, malformedRecord, mapped, refusedAddress, refusedRecord}
+use Rattle.mapping.specs.ToAddress.{addressOf, isCarrier, recordToAddress, toAddress, toAddressBy}
+use Rattle.mapping.specs.ToRecord.{addressToRecord, recordIn, toRecordBy}
 use Rattle.mapping.specs.Whole.{Whole, WholeText}
 use Rattle.soundness.specs.Check.{CheckResult, Demand3}
 use Rattle.soundness.specs.Sound.{HasRoom, IsStruct, Sound, Witness, textOf}
@@ -59,7 +61,7 @@ use Rattle.router.specs.Run.{Calls, Routing, whole}
 use Rattle.router.specs.declared.run.Routed.{Routed}
 use Rattle.gateway_pack.specs.Packed.{lengthLimit, numberLimit, packedCount, packedPlace, packedText, placeLimit}
 use Rattle.gateway_text.specs.Texts.{recordOfText, textOfRecord}
-use Rattle.gateway.specs.Exports.{addressToText, packed, textToAddress}
+use Rattle.gateway.specs.Exports.{addressToText, packed, textResult, textToAddress, textToAddressBy}
 
 -- What every record struct has: as many values, units and DDs as its type says. (The definitions are over lists, which could have any length.)
 -- `is_struct` of `src/lib.rt` takes any record and promises this of it, so that no promise about records leaves one out.
@@ -67,6 +69,32 @@ pub record Struct (r : Record) : Type 0 where
   pub values : IsStruct r
   pub units : length (r .units .names) ≡ most
   pub dds : length (r .dds .items) ≡ most
+
+-- ---- where a table comes from
+
+-- a table text, or a list of entries over a text
+pub data Source : Type 0 where
+  text : List ℕ → Source
+  list : List ℕ → List RowEntry → Source
+
+-- the table that it spells, or the number of its first bad line or entry
+abbrev pub spelling : Source → TableOutcome
+spelling (text table) = loadedFrom table
+spelling (list s rows) = listedFrom s rows
+
+-- the two mappings under it, and for C
+abbrev pub addressTo : Source → List ℕ → RecordResult
+addressTo x s = toRecordBy (spelling x) s
+
+abbrev pub recordTo : Source → Record → List ℕ → AddressResult
+recordTo x r old = toAddressBy (spelling x) r old
+
+-- What the entry points for a text are equal to is this of a text; those for a list are equal to this of a list.
+pub record Texts : Type 0 where
+  pub to-record : (table s : List ℕ) → addressToRecord table s ≡ addressTo (text table) s
+  pub to-address : (table : List ℕ) (r : Record) (old : List ℕ) → recordToAddress table r old ≡ recordTo (text table) r old
+  pub address-text : (table s old : List ℕ) → addressToText table s old ≡ textResult (addressTo (text table) s) old
+  pub text-address : (table s old : List ℕ) → textToAddress table s old ≡ textToAddressBy (spelling (text table)) s old
 
 -- ---- demand 1: each call ends with a result or a numbered refusal; a refusal returns an empty record or length 0 and leaves the lent buffer as it
 -- was. No attribute is ever shortened.
@@ -107,11 +135,11 @@ pub record Unshortened : Type 0 where
       → view (addUnit r v .record') ≡ record { single = view r .single; units = view r .units ++ (v ∷ []); dds = view r .dds }
   pub added-dd : (r : Record) (t v : List ℕ) → Struct r → addDd r t v .number ≡ 0
       → view (addDd r t v .record') ≡ record { single = view r .single; units = view r .units; dds = view r .dds ++ (record { kind = t; value = v } ∷ []) }
-  pub address-read : (table s : List ℕ) (t : Table) (a : Address) → loadedFrom table ≡ wellFormed t → length s ≤ longestAddress → shapeOf s ≡ some a
-      → carriedWhole t a ≡ false → Whole t a (addressToRecord table s .record')
-  pub address-carried : (table s : List ℕ) (t : Table) (a : Address) → loadedFrom table ≡ wellFormed t → length s ≤ longestAddress → shapeOf s ≡ some a
-      → carriedWhole t a ≡ true → addressToRecord table s .number ≡ 0
-      → view (addressToRecord table s .record') .dds ≡ record { kind = carrierType; value = coded s } ∷ []
+  pub address-read : (table : Source) (s : List ℕ) (t : Table) (a : Address) → spelling table ≡ wellFormed t → length s ≤ longestAddress → shapeOf s ≡ some a
+      → carriedWhole t a ≡ false → Whole t a (addressTo table s .record')
+  pub address-carried : (table : Source) (s : List ℕ) (t : Table) (a : Address) → spelling table ≡ wellFormed t → length s ≤ longestAddress → shapeOf s ≡ some a
+      → carriedWhole t a ≡ true → addressTo table s .number ≡ 0
+      → view (addressTo table s .record') .dds ≡ record { kind = carrierType; value = coded s } ∷ []
   pub text-read : (s : List ℕ) → recordOfText s .number ≡ 0 → WholeText s (recordOfText s .record')
   -- of the record text of what is left of a record behind any number of its levels; and of the short form of a name
   pub text-written : (r : Record) (n : ℕ) → Struct r → canonicalRecord r ≡ true → let b = remaining n (view r) in
@@ -119,12 +147,12 @@ pub record Unshortened : Type 0 where
   pub name-written : (m : Name) (gq : List ℕ) → isShort m gq ≡ true → readName (nameText m) ≡ some m
 
 pub record Demand1 : Type 0 where
-  pub to-record : (table s : List ℕ) → EndsRecord (1 ∷ 2 ∷ 3 ∷ 7 ∷ []) (addressToRecord table s .number) (addressToRecord table s .record')
-  pub to-address : (table : List ℕ) (r : Record) (old : List ℕ) → EndsBuffer (4 ∷ 5 ∷ 6 ∷ 7 ∷ []) old (withoutLine (recordToAddress table r old))
+  pub to-record : (table : Source) (s : List ℕ) → EndsRecord (1 ∷ 2 ∷ 3 ∷ 7 ∷ []) (addressTo table s .number) (addressTo table s .record')
+  pub to-address : (table : Source) (r : Record) (old : List ℕ) → EndsBuffer (4 ∷ 5 ∷ 6 ∷ 7 ∷ []) old (withoutLine (recordTo table r old))
   pub read-record : (s : List ℕ) → EndsRecord (4 ∷ []) (recordOfText s .number) (recordOfText s .record')
   pub write-record : (r : Record) (old : List ℕ) → EndsBuffer (4 ∷ 6 ∷ []) old (withoutLine (textOfRecord r old))
-  pub address-text : (table s old : List ℕ) → EndsBuffer (1 ∷ 2 ∷ 3 ∷ 6 ∷ 7 ∷ []) old (withoutLine (addressToText table s old))
-  pub text-address : (table s old : List ℕ) → EndsBuffer (4 ∷ 5 ∷ 6 ∷ 7 ∷ []) old (withoutLine (textToAddress table s old))
+  pub address-text : (table : Source) (s old : List ℕ) → EndsBuffer (1 ∷ 2 ∷ 3 ∷ 6 ∷ 7 ∷ []) old (withoutLine (textResult (addressTo table s) old))
+  pub text-address : (table : Source) (s old : List ℕ) → EndsBuffer (4 ∷ 5 ∷ 6 ∷ 7 ∷ []) old (withoutLine (textToAddressBy (spelling table) s old))
   pub add : (r : Record) (k : ℕ) (v : List ℕ) → EndsAddition r (addSingle r k v)
   pub add-unit : (r : Record) (v : List ℕ) → EndsAddition r (addUnit r v)
   pub add-dd : (r : Record) (t v : List ℕ) → EndsAddition r (addDd r t v)
@@ -133,27 +161,27 @@ pub record Demand1 : Type 0 where
 -- ---- demand 2: the mapping is document 01's, both ways, each refusal exactly when its rule says. An address carried whole comes back to the byte.
 
 -- "Order, address to record: 7, 2, 1, 3": one line a case, and no two can hold at once
-pub record RecordRules (table s : List ℕ) : Type 0 where
-  pub seven : (n : ℕ) → loadedFrom table ≡ malformed n → addressToRecord table s ≡ malformedRecord n
-  pub two : (t : Table) → loadedFrom table ≡ wellFormed t → longestAddress < length s → addressToRecord table s ≡ refusedRecord 2
-  pub one : (t : Table) → loadedFrom table ≡ wellFormed t → length s ≤ longestAddress → shapeOf s ≡ none → addressToRecord table s ≡ refusedRecord 1
-  pub three : (t : Table) (a : Address) → loadedFrom table ≡ wellFormed t → length s ≤ longestAddress → shapeOf s ≡ some a → carriedWhole t a ≡ true
-      → longestCoded < length (coded s) → addressToRecord table s ≡ refusedRecord 3
-  pub carried : (t : Table) (a : Address) → loadedFrom table ≡ wellFormed t → length s ≤ longestAddress → shapeOf s ≡ some a → carriedWhole t a ≡ true
-      → length (coded s) ≤ longestCoded → addressToRecord table s ≡ mapped (carrierOf (t .gateway .path) s)
-  pub read-in : (t : Table) (a : Address) → loadedFrom table ≡ wellFormed t → length s ≤ longestAddress → shapeOf s ≡ some a → carriedWhole t a ≡ false
-      → (addressToRecord table s ≡ mapped (recordIn (resultOf t a))) × (resultOf t a ≡ read (recordIn (resultOf t a)))
+pub record RecordRules (table : Source) (s : List ℕ) : Type 0 where
+  pub seven : (n : ℕ) → spelling table ≡ malformed n → addressTo table s ≡ malformedRecord n
+  pub two : (t : Table) → spelling table ≡ wellFormed t → longestAddress < length s → addressTo table s ≡ refusedRecord 2
+  pub one : (t : Table) → spelling table ≡ wellFormed t → length s ≤ longestAddress → shapeOf s ≡ none → addressTo table s ≡ refusedRecord 1
+  pub three : (t : Table) (a : Address) → spelling table ≡ wellFormed t → length s ≤ longestAddress → shapeOf s ≡ some a → carriedWhole t a ≡ true
+      → longestCoded < length (coded s) → addressTo table s ≡ refusedRecord 3
+  pub carried : (t : Table) (a : Address) → spelling table ≡ wellFormed t → length s ≤ longestAddress → shapeOf s ≡ some a → carriedWhole t a ≡ true
+      → length (coded s) ≤ longestCoded → addressTo table s ≡ mapped (carrierOf (t .gateway .path) s)
+  pub read-in : (t : Table) (a : Address) → spelling table ≡ wellFormed t → length s ≤ longestAddress → shapeOf s ≡ some a → carriedWhole t a ≡ false
+      → (addressTo table s ≡ mapped (recordIn (resultOf t a))) × (resultOf t a ≡ read (recordIn (resultOf t a)))
 
 -- "Record to address: 7, 4, 5, 6"
-pub record AddressRules (table : List ℕ) (r : Record) (old : List ℕ) : Type 0 where
-  pub seven : (n : ℕ) → loadedFrom table ≡ malformed n → recordToAddress table r old ≡ malformedAddress n old
-  pub four : (t : Table) → loadedFrom table ≡ wellFormed t → canonicalRecord r ≡ false → recordToAddress table r old ≡ refusedAddress 4 old
-  pub five : (t : Table) → loadedFrom table ≡ wellFormed t → canonicalRecord r ≡ true → addressOf t (view r) ≡ none
-      → recordToAddress table r old ≡ refusedAddress 5 old
-  pub six : (t : Table) (s : List ℕ) → loadedFrom table ≡ wellFormed t → canonicalRecord r ≡ true → addressOf t (view r) ≡ some s
-      → length old < length s → recordToAddress table r old ≡ refusedAddress 6 old
-  pub done : (t : Table) (s : List ℕ) → loadedFrom table ≡ wellFormed t → canonicalRecord r ≡ true → addressOf t (view r) ≡ some s
-      → length s ≤ length old → recordToAddress table r old ≡ record { number = 0; line = 0; size = length s; buffer = front s old }
+pub record AddressRules (table : Source) (r : Record) (old : List ℕ) : Type 0 where
+  pub seven : (n : ℕ) → spelling table ≡ malformed n → recordTo table r old ≡ malformedAddress n old
+  pub four : (t : Table) → spelling table ≡ wellFormed t → canonicalRecord r ≡ false → recordTo table r old ≡ refusedAddress 4 old
+  pub five : (t : Table) → spelling table ≡ wellFormed t → canonicalRecord r ≡ true → addressOf t (view r) ≡ none
+      → recordTo table r old ≡ refusedAddress 5 old
+  pub six : (t : Table) (s : List ℕ) → spelling table ≡ wellFormed t → canonicalRecord r ≡ true → addressOf t (view r) ≡ some s
+      → length old < length s → recordTo table r old ≡ refusedAddress 6 old
+  pub done : (t : Table) (s : List ℕ) → spelling table ≡ wellFormed t → canonicalRecord r ≡ true → addressOf t (view r) ≡ some s
+      → length s ≤ length old → recordTo table r old ≡ record { number = 0; line = 0; size = length s; buffer = front s old }
 
 -- 7, "the table is malformed", with the "number of the first bad line"; it is well-formed exactly when no line is bad
 pub record TableRules (table : List ℕ) : Type 0 where
@@ -163,37 +191,55 @@ pub record TableRules (table : List ℕ) : Type 0 where
   pub well-formed : (t : Table) → loadedFrom table ≡ wellFormed t → (length table ≤ longestTable) × NoneBad (tableLines table)
   pub formed-well : length table ≤ longestTable → NoneBad (tableLines table) → (t : Table) × (loadedFrom table ≡ wellFormed t)
 
+-- The same of a list: its entries stand for lines. "The 65,536 bytes bound the text alone", and an empty list is bad at 1.
+pub record ListRules (s : List ℕ) (rows : List RowEntry) : Type 0 where
+  pub first-bad : (n : ℕ) → listedFrom s rows ≡ malformed n
+      → ((longestTable < length s) × (n ≡ 0)) ⊎ ((length s ≤ longestTable) × (((rows ≡ []) × (n ≡ 1)) ⊎ FirstBad (map (entryLine s) rows) n))
+  pub bad-first : (n : ℕ) → length s ≤ longestTable → FirstBad (map (entryLine s) rows) n → listedFrom s rows ≡ malformed n
+  pub well-formed : (t : Table) → listedFrom s rows ≡ wellFormed t → (length s ≤ longestTable) × NoneBad (map (entryLine s) rows)
+  pub formed-well : length s ≤ longestTable → NoneBad (map (entryLine s) rows) → (rows ≡ [] → ⊥) → (t : Table) × (listedFrom s rows ≡ wellFormed t)
+  -- entries past the 514th change nothing, since that is bad: the gateway's entry and 512 rows are all that there may be
+  pub front : listedFrom s (take 514 rows) ≡ listedFrom s rows
+  -- a list whose entries have the fields of a text's lines gives the same table, or the same number
+  pub same : (table : List ℕ) → length s ≤ longestTable → length table ≤ longestTable → all (λ (l : Line). l .ended) (map (entryLine s) rows) ≡ true
+      → all (λ (l : Line). l .ended) (tableLines table) ≡ true → map fieldsOf (map (entryLine s) rows) ≡ map fieldsOf (tableLines table)
+      → listedFrom s rows ≡ loadedFrom table
+  -- and a list that gives a table can be written as a text that gives the same, where that fits
+  pub written : (t : Table) → listedFrom s rows ≡ wellFormed t → length (linesText (map (entryLine s) rows)) ≤ longestTable
+      → loadedFrom (linesText (map (entryLine s) rows)) ≡ wellFormed t
+
 pub record Demand2 : Type 0 where
   pub tables : (table : List ℕ) → TableRules table
+  pub lists : (s : List ℕ) (rows : List RowEntry) → ListRules s rows
   -- one of the clauses of "carried whole" holds exactly where the domain is not of domain parts or the four steps come to no canonical record
   pub carried-exactly : (t : Table) (a : Address) → carriedWhole t a ≡ not (isGood (readWell t a))
-  pub to-record : (table s : List ℕ) → RecordRules table s
-  pub to-address : (table : List ℕ) (r : Record) (old : List ℕ) → AddressRules table r old
-  pub carried-back : (table s old : List ℕ) (t : Table) (a : Address) → loadedFrom table ≡ wellFormed t → length s ≤ longestAddress → shapeOf s ≡ some a
-      → carriedWhole t a ≡ true → addressToRecord table s .number ≡ 0 → length s ≤ length old
-      → recordToAddress table (addressToRecord table s .record') old ≡ record { number = 0; line = 0; size = length s; buffer = front s old }
+  pub to-record : (table : Source) (s : List ℕ) → RecordRules table s
+  pub to-address : (table : Source) (r : Record) (old : List ℕ) → AddressRules table r old
+  pub carried-back : (table : Source) (s old : List ℕ) (t : Table) (a : Address) → spelling table ≡ wellFormed t → length s ≤ longestAddress → shapeOf s ≡ some a
+      → carriedWhole t a ≡ true → addressTo table s .number ≡ 0 → length s ≤ length old
+      → recordTo table (addressTo table s .record') old ≡ record { number = 0; line = 0; size = length s; buffer = front s old }
 
 -- ---- demand 3: the check accepts a table exactly when it is well-formed and every canonical record that is no carrier comes back under it; when it
 -- refuses a well-formed table it shows a record that does not.
 
--- the table text is well-formed, and the table that it spells is sound
-pub record Accepted (table : List ℕ) : Type 0 where
+-- the table is well-formed, and what was spelled is sound
+pub record Accepted (table : Source) : Type 0 where
   pub spelled : Table
-  pub formed : loadedFrom table ≡ wellFormed spelled
+  pub formed : spelling table ≡ wellFormed spelled
   pub sound : Sound spelled
 
 -- it is well-formed, and the record does not come back
-pub record Shown (table : List ℕ) (r : Record) : Type 0 where
+pub record Shown (table : Source) (r : Record) : Type 0 where
   pub spelled : Table
-  pub formed : loadedFrom table ≡ wellFormed spelled
+  pub formed : spelling table ≡ wellFormed spelled
   pub witness : Witness spelled r
 
--- A record comes back, by the results of the two mappings under the table text. A buffer "has room" exactly when record to address does not answer 6
+-- A record comes back, by the results of the two mappings under the table. A buffer "has room" exactly when record to address does not answer 6
 -- (`Room`), so nothing is asked of it here but that.
-pub record Returns (table : List ℕ) (r : Record) (old : List ℕ) : Type 0 where
-  pub written : recordToAddress table r old .number ≡ 0
-  pub read : let s = take (recordToAddress table r old .size) (recordToAddress table r old .buffer) in
-      (addressToRecord table s .number ≡ 0) × (sameRecord (addressToRecord table s .record') r ≡ true)
+pub record Returns (table : Source) (r : Record) (old : List ℕ) : Type 0 where
+  pub written : recordTo table r old .number ≡ 0
+  pub read : let s = take (recordTo table r old .size) (recordTo table r old .buffer) in
+      (addressTo table s .number ≡ 0) × (sameRecord (addressTo table s .record') r ≡ true)
 
 -- "A buffer has room when it is no shorter than the text that "Record to address" gives": exactly when the answer is not 6
 pub record Room (t : Table) (r : Record) (old : List ℕ) : Type 0 where
@@ -201,44 +247,44 @@ pub record Room (t : Table) (r : Record) (old : List ℕ) : Type 0 where
   pub has-room : (toAddress t r old .number ≡ 6 → ⊥) → HasRoom (textOf t r) old
 
 -- for any answer that the check's contract allows
-pub record Judgement (table : List ℕ) (o : CheckResult) : Type 0 where
+pub record Judgement (table : Source) (o : CheckResult) : Type 0 where
   pub accepts : o .number ≡ 0 → Accepted table
   -- what that comes to, said of the two mappings
-  pub returns : (t : Table) (r : Record) (old : List ℕ) → o .number ≡ 0 → loadedFrom table ≡ wellFormed t → Struct r → canonicalRecord r ≡ true
-      → isCarrier t (view r) ≡ false → (recordToAddress table r old .number ≡ 6 → ⊥) → Returns table r old
+  pub returns : (t : Table) (r : Record) (old : List ℕ) → o .number ≡ 0 → spelling table ≡ wellFormed t → Struct r → canonicalRecord r ≡ true
+      → isCarrier t (view r) ≡ false → (recordTo table r old .number ≡ 6 → ⊥) → Returns table r old
   pub accepted : Accepted table → o .number ≡ 0
   pub shows : o .number ≡ 8 → Shown table (o .record')
   -- a canonical record, and no carrier
   pub witness : o .number ≡ 8 → (IsStruct (o .record')) × (canonicalRecord (o .record') ≡ true)
-      × ((t : Table) → loadedFrom table ≡ wellFormed t → isCarrier t (view (o .record')) ≡ false)
+      × ((t : Table) → spelling table ≡ wellFormed t → isCarrier t (view (o .record')) ≡ false)
   -- that it does not come back, said of the two mappings
   pub lost : o .number ≡ 8
-      → ((old : List ℕ) → (recordToAddress table (o .record') old .number ≡ 6 → ⊥) → Returns table (o .record') old) → ⊥
-  pub malformed-line : o .number ≡ 7 → loadedFrom table ≡ malformed (o .line)
+      → ((old : List ℕ) → (recordTo table (o .record') old .number ≡ 6 → ⊥) → Returns table (o .record') old) → ⊥
+  pub malformed-line : o .number ≡ 7 → spelling table ≡ malformed (o .line)
   pub none-else : member (o .number) (0 ∷ 7 ∷ 8 ∷ []) ≡ true
   -- "the record (from the check, an empty one)"; with 7 an "empty record", and the line is told with 7 alone
   pub empty : (o .number ≡ 8 → ⊥) → o .record' ≡ emptyRecord
   pub no-line : (o .number ≡ 7 → ⊥) → o .line ≡ 0
 
 pub record Demand3Exactly : Type 0 where
-  pub judges : (table : List ℕ) (o : CheckResult) → Demand3 (loadedFrom table) o → Judgement table o
+  pub judges : (table : Source) (o : CheckResult) → Demand3 (spelling table) o → Judgement table o
   pub room : (t : Table) (r : Record) (old : List ℕ) → Room t r old
 
 -- ---- the router: however the input is cut into chunks as it arrives, and however small the room for output (from that of one answer up), the
 -- whole output is that of the whole input
 
 pub record Router : Type 0 where
-  pub output : (table input out : List ℕ) → Calls (loadedFrom table) false [] input out → out ≡ whole (loadedFrom table) input
+  pub output : (table : Source) (input out : List ℕ) → Calls (spelling table) false [] input out → out ≡ whole (spelling table) input
   -- any calls are such a run, each on what was handed back and what arrives; it has ended when nothing is left
-  pub ended : (table : List ℕ) (over : Bool) → Calls (loadedFrom table) over [] [] []
-  pub called : (table kept chunk rest out old new : List ℕ) (over last : Bool) (r : Routed) (c : Routing (loadedFrom table) over (kept ++ chunk) last old r new)
-      → (last ≡ true → rest ≡ []) → Calls (loadedFrom table) (r .over) (drop (r .taken) (kept ++ chunk)) rest out
-      → Calls (loadedFrom table) over kept (chunk ++ rest) (c .went .text ++ out)
+  pub ended : (table : Source) (over : Bool) → Calls (spelling table) over [] [] []
+  pub called : (table : Source) (kept chunk rest out old new : List ℕ) (over last : Bool) (r : Routed) (c : Routing (spelling table) over (kept ++ chunk) last old r new)
+      → (last ≡ true → rest ≡ []) → Calls (spelling table) (r .over) (drop (r .taken) (kept ++ chunk)) rest out
+      → Calls (spelling table) over kept (chunk ++ rest) (c .went .text ++ out)
   -- what a call wrote stands at the front of the buffer, and the rest is as before
-  pub front : (table s old new : List ℕ) (over last : Bool) (r : Routed) (c : Routing (loadedFrom table) over s last old r new)
+  pub front : (table : Source) (s old new : List ℕ) (over last : Bool) (r : Routed) (c : Routing (spelling table) over s last old r new)
       → (take (r .written) new ≡ c .went .text) × (drop (r .written) new ≡ drop (r .written) old)
   -- a call with room for one answer that takes nothing has nothing to answer: no LF, not too much for a line, and more to come or nothing left
-  pub moves : (table s old new : List ℕ) (over last : Bool) (r : Routed) → Routing (loadedFrom table) over s last old r new
+  pub moves : (table : Source) (s old new : List ℕ) (over last : Bool) (r : Routed) → Routing (spelling table) over s last old r new
       → answerRoom ≤ length old → r .taken ≡ 0 → (member 10 s ≡ false) × (length s ≤ longestRouted) × (last ≡ true → s ≡ [])
 
 -- ---- a text in a lent buffer, of the requests that came after: it ends as in demand 1
@@ -348,6 +394,7 @@ pub record Limits : Type 0 where
 
 pub record Promises : Type 0 where
   pub limits : Limits
+  pub texts : Texts
   pub demand1 : Demand1
   pub demand2 : Demand2
   pub demand3 : Demand3Exactly

@@ -3,7 +3,7 @@
 -- Assumes nothing.
 use mathlib.Core.Path.{_≡_}
 use mathlib.Core.Bool.{Bool, true, false, _&&_, not, cond}
-use mathlib.Core.List.{List, _∷_, _++_, map}
+use mathlib.Core.List.{List, [], _∷_, _++_, map}
 use Prim.Native.Nat.{ℕ, _+_}
 use lib.Dec.{leb, ltb, eqb}
 use lib.ListN.{length}
@@ -13,6 +13,7 @@ use Rattle.rowlist.specs.declared.RowEntry.{RowEntry}
 use Rattle.table.specs.Lines as lines
 use Rattle.table.specs.Lines.{hasTag, isRow, longestTable, malformed, readLines, rowOf}
 use Rattle.table.specs.Rows.{RowInside, between, rowAt}
+use Rattle.table.specs.Table.{Token}
 use Rattle.table.specs.declared.line as line
 
 -- the domain and the path of an entry, as far as they are in the text
@@ -41,6 +42,17 @@ entryLine s e = record { text = e .kind ∷ 9 ∷ (domainPart s e ++ 9 ∷ pathP
 unfoldable pub listedFrom : List ℕ → List RowEntry → lines.TableOutcome
 unfolding entryLine readLines
 listedFrom s es = cond (ltb longestTable (length s)) (malformed 0) (readLines (map (entryLine s) es))
+
+-- ---- lines, as a list and a text share them
+
+-- the fields of a line, one tab between two
+abbrev pub fieldsOf : lines.Line → List Token
+fieldsOf l = split 9 (l .text)
+
+-- lines as a text, each with its LF
+unfoldable pub linesText : List lines.Line → List ℕ
+linesText [] = []
+linesText (l ∷ ls) = l .text ++ 10 ∷ linesText ls
 
 -- ---- an entry by itself
 

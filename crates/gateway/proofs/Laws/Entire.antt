@@ -27,16 +27,20 @@ use Rattle.ortext_write.proofs.Laws.Written.{keys-good, written-back}
 use Rattle.mailaddr.specs.Answers.{fromShape, shaped, shaping}
 use Rattle.mailaddr.specs.Code.{coded}
 use Rattle.mailaddr.specs.Shape.{Address, longestAddress, shapeOf}
-use Rattle.table.specs.Lines.{loadedFrom, wellFormed}
+use Rattle.table.specs.Formed.{Formed}
+use Rattle.table.specs.Lines.{wellFormed}
+use Rattle.table_load.specs.Load.{FormedBy}
+use Rattle.table_load.proofs.Laws.Ready.{loaded-rules}
+use Rattle.rowlist_load.proofs.Laws.Whole.{listed-rules}
 use Rattle.table.specs.Table.{Table}
 use Rattle.mapping.specs.Carried.{carriedWhole, carrierType}
 use Rattle.mapping.specs.Results.{RecordResult}
-use Rattle.mapping.specs.ToRecord.{addressToRecord, toRecord, toRecordBy}
+use Rattle.mapping.specs.ToRecord.{toRecord, toRecordBy}
 use Rattle.mapping.specs.Whole.{Whole, WholeText}
 use Rattle.mapping.proofs.Laws.CarriedBack.{carried-dds-text}
 use Rattle.mapping.proofs.Laws.Whole.{returned-whole, whole-text}
 use Rattle.gateway_text.specs.Texts.{readOutcome, recordOfText}
-use Rattle.gateway.specs.Promises.{EndsAddition, Struct, Unshortened}
+use Rattle.gateway.specs.Promises.{EndsAddition, Source, Struct, Unshortened, addressTo, list, spelling, text}
 
 -- ---- what is added
 
@@ -94,22 +98,30 @@ pub short-shape : (s : List ℕ) (o : Option Address) → length s ≤ longestAd
 unfolding shaping
 short-shape s o l h = rw (le-ltb longestAddress (length s) l, h)
 
--- address to record under a text that spells a table
-pub under-text : (table s : List ℕ) (t : Table) → loadedFrom table ≡ wellFormed t → addressToRecord table s ≡ toRecord t s
-unfolding addressToRecord toRecordBy
-under-text table s t h = rw h
+-- address to record under a table
+pub under-table : (x : Source) (s : List ℕ) (t : Table) → spelling x ≡ wellFormed t → addressTo x s ≡ toRecord t s
+unfolding toRecordBy
+under-table x s t h = rw h
 
-module _ (table s : List ℕ) (t : Table) (a : Address) (h : loadedFrom table ≡ wellFormed t) (l : length s ≤ longestAddress) (e : shapeOf s ≡ some a) where
+-- whatever spells a table, that keeps the rules of "The table text"
+pub source-rules : (x : Source) → FormedBy (spelling x)
+source-rules (text table) = loaded-rules table
+source-rules (list s rows) = listed-rules s rows
+
+pub source-formed : (x : Source) (t : Table) → spelling x ≡ wellFormed t → Formed t
+source-formed x t h = subst FormedBy h (source-rules x)
+
+module _ (table : Source) (s : List ℕ) (t : Table) (a : Address) (h : spelling table ≡ wellFormed t) (l : length s ≤ longestAddress) (e : shapeOf s ≡ some a) where
   has-shape : shaping s ≡ shaped a
   unfolding fromShape
   has-shape = short-shape s (some a) l e
 
-  address-read : carriedWhole t a ≡ false → Whole t a (addressToRecord table s .record')
-  address-read c = subst (λ (o : RecordResult). Whole t a (o .record')) (sym (under-text table s t h)) (returned-whole t s a has-shape c)
+  address-read : carriedWhole t a ≡ false → Whole t a (addressTo table s .record')
+  address-read c = subst (λ (o : RecordResult). Whole t a (o .record')) (sym (under-table table s t h)) (returned-whole t s a has-shape c)
 
-  address-carried : carriedWhole t a ≡ true → addressToRecord table s .number ≡ 0
-      → view (addressToRecord table s .record') .dds ≡ record { kind = carrierType; value = coded s } ∷ []
-  address-carried c n = carried-dds-text table s [] t a h has-shape c n
+  address-carried : carriedWhole t a ≡ true → addressTo table s .number ≡ 0
+      → view (addressTo table s .record') .dds ≡ record { kind = carrierType; value = coded s } ∷ []
+  address-carried c n = carried-dds-text (spelling table) s [] t a h (source-formed table t h) has-shape c n
 
 -- ---- all of it
 

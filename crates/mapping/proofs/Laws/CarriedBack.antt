@@ -32,16 +32,15 @@ use Rattle.mailaddr.proofs.Laws.Carried.{carried-back, carried-value}
 use Rattle.mailaddr.proofs.Laws.Shaped.{shaped-shape}
 use Rattle.table.specs.Table.{Row, Table, Token}
 use Rattle.table.specs.Formed.{Formed}
-use Rattle.table.specs.Lines.{areFields, isField, isPath, isRow, loadedFrom, longestGatewayDomain, wellFormed}
+use Rattle.table.specs.Lines.{TableOutcome, areFields, isField, isPath, isRow, longestGatewayDomain, wellFormed}
 use Rattle.table_settle.specs.Settle.{addLevels, begun}
-use Rattle.table.proofs.Laws.Formed.{loaded-formed}
 use Rattle.table_lookup.proofs.Laws.Begins.{begins-append}
 use Rattle.table_lookup.proofs.Laws.Lookup.{same-equality}
 use Rattle.table_settle.proofs.Laws.Settled.{LevelsMade, field-there, levelled, levelled-kept, levelled-levels, levelled-units, levels-made}
 use Rattle.mapping.specs.Carried.{carriedWhole, carrierOf, carrierType, carrying, isNone, longestCoded}
 use Rattle.mapping.specs.Results.{mapped, placed, refusedRecord}
-use Rattle.mapping.specs.ToAddress.{carriedAddress, carriedValue, hasLevels, inShape, isCarrier, isNameless, isOneCarrier, recordToAddress, toAddress, toAddressBy}
-use Rattle.mapping.specs.ToRecord.{addressToRecord, recordBy, toRecord, toRecordBy}
+use Rattle.mapping.specs.ToAddress.{carriedAddress, carriedValue, hasLevels, inShape, isCarrier, isNameless, isOneCarrier, toAddress, toAddressBy}
+use Rattle.mapping.specs.ToRecord.{recordBy, toRecord, toRecordBy}
 use Rattle.mapping.proofs.Laws.Route.{address-carried, answer-placed}
 
 -- ---- the attributes of a carrier
@@ -171,25 +170,25 @@ module _ (t : Table) (f : Formed t) (s : List ℕ) (a : Address) (h : shaping s 
       sym (answer-placed t (carrierOf path s) old s carrier-canonical (address-carried t (view (carrierOf path s)) carrier-is ∙ carrier-address))
       ∙ rw (le-ltb (length old) (length s) m)
 
--- ---- under a table text
+-- ---- under what a table was read as
 
-module _ (table s old : List ℕ) (t : Table) (a : Address) (g : loadedFrom table ≡ wellFormed t) (h : shaping s ≡ shaped a) (c : carriedWhole t a ≡ true) where
-  text-carried : addressToRecord table s ≡ carrying (t .gateway .path) s
-  unfolding addressToRecord toRecordBy toRecord recordBy
-  text-carried = rw (g, h, c)
+module _ (l : TableOutcome) (s old : List ℕ) (t : Table) (a : Address) (g : l ≡ wellFormed t) (k : Formed t) (h : shaping s ≡ shaped a) (c : carriedWhole t a ≡ true) where
+  read-carried : toRecordBy l s ≡ carrying (t .gateway .path) s
+  unfolding toRecordBy toRecord recordBy
+  read-carried = rw (g, h, c)
 
-  pub carried-back-text : addressToRecord table s .number ≡ 0 → length s ≤ length old
-      → recordToAddress table (addressToRecord table s .record') old ≡ record { number = 0; line = 0; size = length s; buffer = front s old }
-  unfolding recordToAddress toAddressBy carrying mapped refusedRecord
+  pub carried-back-text : toRecordBy l s .number ≡ 0 → length s ≤ length old
+      → toAddressBy l (toRecordBy l s .record') old ≡ record { number = 0; line = 0; size = length s; buffer = front s old }
+  unfolding toAddressBy carrying mapped refusedRecord
   carried-back-text n m =
       by-test (ltb longestCoded (length (coded s)))
-      (λ e. absurd (omega (arith, rw (text-carried, e) at n)))
-      (λ e. rw (text-carried, e, g) (carried-comes-back t (loaded-formed table t g) s a h (ltb-false longestCoded (length (coded s)) e) old m))
+      (λ e. absurd (omega (arith, rw (read-carried, e) at n)))
+      (λ e. rw (read-carried, e, g) (carried-comes-back t k s a h (ltb-false longestCoded (length (coded s)) e) old m))
 
-  pub carried-dds-text : addressToRecord table s .number ≡ 0
-      → view (addressToRecord table s .record') .dds ≡ record { kind = carrierType; value = coded s } ∷ []
+  pub carried-dds-text : toRecordBy l s .number ≡ 0
+      → view (toRecordBy l s .record') .dds ≡ record { kind = carrierType; value = coded s } ∷ []
   unfolding carrying mapped refusedRecord
   carried-dds-text n =
       by-test (ltb longestCoded (length (coded s)))
-      (λ e. absurd (omega (arith, rw (text-carried, e) at n)))
-      (λ e. rw (text-carried, e) (carrier-dds t (loaded-formed table t g) s a h (ltb-false longestCoded (length (coded s)) e)))
+      (λ e. absurd (omega (arith, rw (read-carried, e) at n)))
+      (λ e. rw (read-carried, e) (carrier-dds t k s a h (ltb-false longestCoded (length (coded s)) e)))

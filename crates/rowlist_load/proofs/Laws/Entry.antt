@@ -3,9 +3,9 @@
 use mathlib.Core.Path.{_≡_, refl, sym, ap, _∙_}
 use mathlib.Core.Bool.{Bool, true, false, _&&_, _||_, not, and-false}
 use mathlib.Core.List.{List, [], _∷_, _++_}
-use Prim.Native.Nat.{ℕ, _+_, _-_, _≤_, _<_}
+use Prim.Native.Nat.{ℕ, _+_, _≤_, _<_}
 use native.Mathlib.Omega.{arith}
-use borrow.Author.Tests.{eqb-true, le-leb, leb-false, leb-true, lt-leb, ne-eqb}
+use borrow.Author.Tests.{eqb-true, le-leb, leb-true, lt-leb, ne-eqb}
 use lib.Dec.{eqb, leb}
 use lib.ListN.{length}
 use Rattle.chars.specs.Lists.{all}
@@ -28,11 +28,14 @@ use Rattle.rowlist_load.specs.Listed.{EntryFound, domainPart, entryLine,
 
 -- ---- a part in the text
 
-pub room-leb : (at len size : ℕ) → len ≤ size → leb at (size - len) ≡ leb (at + len) size
-room-leb at len size h =
-    by-test (leb at (size - len))
-    (λ e. let l = leb-true at (size - len) e in e ∙ sym (le-leb (at + len) size (omega arith)))
-    (λ e. let l = leb-false at (size - len) e in e ∙ sym (lt-leb (at + len) size (omega arith)))
+-- two comparisons that follow from one another have one answer
+pub leb-both : (a b c d : ℕ) → (a ≤ b → c ≤ d) → (c ≤ d → a ≤ b) → leb a b ≡ leb c d
+leb-both a b c d f g =
+    by-test (leb c d)
+    (λ e. le-leb a b (g (leb-true c d e)) ∙ sym e)
+    (λ e. by-test (leb a b)
+    (λ h. absurd (true-not-false (leb c d) (le-leb c d (f (leb-true a b h))) e))
+    (λ h. h ∙ sym e))
 
 -- ---- a domain has no tab
 

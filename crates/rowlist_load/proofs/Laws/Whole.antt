@@ -23,7 +23,7 @@ use Rattle.table.proofs.Laws.Formed.{lines-formed}
 use Rattle.table.proofs.Laws.Lines.{loaded-lines}
 use Rattle.table_load.specs.Load.{FormedBy, Loading, Ready}
 use Rattle.table_load.proofs.Laws.Ready.{formed-ready}
-use Rattle.rowlist_load.specs.Listed.{entryLine, listedFrom}
+use Rattle.rowlist_load.specs.Listed.{entryLine, fieldsOf, listedFrom}
 use Rattle.rowlist_load.proofs.Laws.Load.{listed-lines}
 
 -- ---- the rules
@@ -100,9 +100,6 @@ listed-front s es =
 -- the line of fields that has its LF
 abbrev lineOf : List Token → Line
 lineOf fs = record { text = join 9 fs; ended = true }
-
-abbrev pub fieldsOf : Line → List Token
-fieldsOf l = split 9 (l .text)
 
 -- lines that have their LF are known by their fields
 lines-known : (ls : List Line) → all (λ l. l .ended) ls ≡ true → map lineOf (map fieldsOf ls) ≡ ls

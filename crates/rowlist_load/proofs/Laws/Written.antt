@@ -2,7 +2,7 @@
 -- Assumes nothing.
 use mathlib.Core.Path.{_≡_, refl, sym, ap, ap₂, _∙_}
 use mathlib.Core.Bool.{Bool, true, false, _&&_, _||_, not}
-use mathlib.Core.List.{List, [], _∷_, _++_, map}
+use mathlib.Core.List.{List, [], _∷_, map}
 use Prim.Native.Nat.{ℕ, suc, _+_, _≤_}
 use native.Mathlib.Omega.{arith}
 use borrow.Author.Tests.{ltb-false, not-false}
@@ -17,16 +17,11 @@ use Rattle.rowlist.specs.declared.RowEntry.{RowEntry}
 use Rattle.table.specs.Table.{Table, Token}
 use Rattle.table.specs.Lines.{Line, badGateway, badRow, gatewayTable, hasTag, isNewRow, isRow, linesOf, loadedFrom, longestGatewayDomain, longestRowDomain, longestTable, malformed, mostRows, readLines, readRows, rowOf, sameDomain, samePath, tableLines, wellFormed, withRow}
 use Rattle.table.proofs.Laws.Lines.{loaded-lines}
-use Rattle.rowlist_load.specs.Listed.{entryLine, isEntry, listedFrom}
+use Rattle.rowlist_load.specs.Listed.{entryLine, isEntry, linesText, listedFrom}
 use Rattle.rowlist_load.proofs.Laws.Feeds.{entry-no-feed}
 use Rattle.rowlist_load.proofs.Laws.Load.{entry-ended, gateway-test, listed-lines}
 
 -- ---- a text of lines
-
--- the lines one behind the other, an LF behind each
-unfoldable pub textOf : List Line → List ℕ
-textOf [] = []
-textOf (l ∷ ls) = l .text ++ 10 ∷ textOf ls
 
 -- a line that a text can have: it has its LF, and no other
 abbrev isWhole : Line → Bool
@@ -37,21 +32,21 @@ unfolding linesOf nonEmpty
 lines-more p [] h = true-not-false true refl (sym h)
 lines-more p (q ∷ ps) h = refl
 
-lines-of : (ls : List Line) → all isWhole ls ≡ true → linesOf (split 10 (textOf ls)) ≡ ls
-unfolding textOf linesOf split all nonEmpty
+lines-of : (ls : List Line) → all isWhole ls ≡ true → linesOf (split 10 (linesText ls)) ≡ ls
+unfolding linesText linesOf split all nonEmpty
 lines-of [] h = refl
 lines-of (l ∷ ls) h =
     let w = and-left (isWhole l) (all isWhole ls) h in
-    ap linesOf (split-at-sep 10 (l .text) (textOf ls) (and-right (l .ended) (clear 10 (l .text)) w))
-    ∙ lines-more (l .text) (split 10 (textOf ls)) (split-some 10 (textOf ls))
+    ap linesOf (split-at-sep 10 (l .text) (linesText ls) (and-right (l .ended) (clear 10 (l .text)) w))
+    ∙ lines-more (l .text) (split 10 (linesText ls)) (split-some 10 (linesText ls))
     ∙ ap₂ (λ (b : Bool) (ms : List Line). record { text = l .text; ended = b } ∷ ms) (sym (and-left (l .ended) (clear 10 (l .text)) w))
     (lines-of ls (and-right (isWhole l) (all isWhole ls) h))
 
-text-some : (l : Line) (ls : List Line) → nonEmpty (textOf (l ∷ ls)) ≡ true
-unfolding textOf nonEmpty
-text-some l ls = some-append (l .text) (10 ∷ textOf ls) refl
+text-some : (l : Line) (ls : List Line) → nonEmpty (linesText (l ∷ ls)) ≡ true
+unfolding linesText nonEmpty
+text-some l ls = some-append (l .text) (10 ∷ linesText ls) refl
 
-text-lines : (l : Line) (ls : List Line) → all isWhole (l ∷ ls) ≡ true → tableLines (textOf (l ∷ ls)) ≡ l ∷ ls
+text-lines : (l : Line) (ls : List Line) → all isWhole (l ∷ ls) ≡ true → tableLines (linesText (l ∷ ls)) ≡ l ∷ ls
 unfolding tableLines
 text-lines l ls h = rw (text-some l ls) (lines-of (l ∷ ls) h)
 
@@ -94,7 +89,7 @@ rows-whole s n t u (e ∷ es) h =
     (λ b. and-both (row-whole s e t b) (rows-whole s (suc n) (withRow t (split 9 (entryLine s e .text))) u es (rw b at h)))
 
 lines-written : (s : List ℕ) (es : List RowEntry) (u : Table) → readLines (map (entryLine s) es) ≡ wellFormed u
-    → tableLines (textOf (map (entryLine s) es)) ≡ map (entryLine s) es
+    → tableLines (linesText (map (entryLine s) es)) ≡ map (entryLine s) es
 unfolding readLines all
 lines-written s [] u h =
     let g : malformed 1 ≡ wellFormed u = h in let z : _≡_ {A = ℕ} 0 1 = cc in absurd (omega arith)
@@ -106,10 +101,10 @@ lines-written s (e ∷ es) u h =
 
 -- Where a list spells a table, the text of its lines spells the same one, if it is no longer than a table text may be.
 pub written : (s : List ℕ) (es : List RowEntry) (u : Table) → listedFrom s es ≡ wellFormed u
-    → length (textOf (map (entryLine s) es)) ≤ longestTable → loadedFrom (textOf (map (entryLine s) es)) ≡ wellFormed u
+    → length (linesText (map (entryLine s) es)) ≤ longestTable → loadedFrom (linesText (map (entryLine s) es)) ≡ wellFormed u
 unfolding listedFrom
 written s es u h l =
     by-test (ltb longestTable (length s))
     (λ b. let g : malformed 0 ≡ wellFormed u = rw b at h in let z : _≡_ {A = ℕ} 0 1 = cc in absurd (omega arith))
     (λ b. let g : readLines (map (entryLine s) es) ≡ wellFormed u = sym (listed-lines s es (ltb-false longestTable (length s) b)) ∙ h in
-    loaded-lines (textOf (map (entryLine s) es)) l ∙ ap readLines (lines-written s es u g) ∙ g)
+    loaded-lines (linesText (map (entryLine s) es)) l ∙ ap readLines (lines-written s es u g) ∙ g)

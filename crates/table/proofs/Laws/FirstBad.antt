@@ -107,18 +107,18 @@ none-gateway : (g : Line) (ls : List Line) → NoneBad (g ∷ ls) → badGateway
 unfolding isBad
 none-gateway g ls f = f [] g ls refl
 
-lines-none-bad : (g : Line) (ls : List Line) → NoneBad (g ∷ ls) → readLines (g ∷ ls) ≡ wellFormed (tableAfter (gatewayTable (split 9 (g .text))) ls)
+pub lines-none-bad : (g : Line) (ls : List Line) → NoneBad (g ∷ ls) → readLines (g ∷ ls) ≡ wellFormed (tableAfter (gatewayTable (split 9 (g .text))) ls)
 unfolding readLines
 lines-none-bad g ls f = rw (none-gateway g ls f) (rows-none 2 (gatewayTable (split 9 (g .text))) ls (none-after g ls f))
 
-none-bad-lines : (g : Line) (ls : List Line) (u : Table) → readLines (g ∷ ls) ≡ wellFormed u → NoneBad (g ∷ ls)
+pub none-bad-lines : (g : Line) (ls : List Line) (u : Table) → readLines (g ∷ ls) ≡ wellFormed u → NoneBad (g ∷ ls)
 unfolding readLines
 none-bad-lines g ls u h =
     by-test (badGateway g)
     (λ b. let q : malformed 1 ≡ wellFormed u = rw b at h in let z : _≡_ {A = ℕ} 0 1 = cc in absurd (omega arith))
     (λ b. none-lines g ls b (none-rows 2 (gatewayTable (split 9 (g .text))) u ls (rw b at h)))
 
-lines-first-bad : (g : Line) (ls : List Line) (n : ℕ) → readLines (g ∷ ls) ≡ malformed n → FirstBad (g ∷ ls) n
+pub lines-first-bad : (g : Line) (ls : List Line) (n : ℕ) → readLines (g ∷ ls) ≡ malformed n → FirstBad (g ∷ ls) n
 unfolding readLines isBad
 lines-first-bad g ls n h =
     by-test (badGateway g)
@@ -140,7 +140,7 @@ lines-first-bad g ls n h =
     none-nothing [] l rest e = let z : _≡_ {A = ℕ} 0 1 = cc in absurd (omega arith)
     none-nothing (m ∷ before) l rest e = let z : _≡_ {A = ℕ} 0 1 = cc in absurd (omega arith)
 
-first-bad-lines : (before : List Line) (l : Line) (rest : List Line) → NoneBad before → isBad before l ≡ true
+pub first-bad-lines : (before : List Line) (l : Line) (rest : List Line) → NoneBad before → isBad before l ≡ true
     → readLines (before ++ l ∷ rest) ≡ malformed (suc (length before))
 unfolding readLines isBad
 first-bad-lines [] l rest f b = rw b

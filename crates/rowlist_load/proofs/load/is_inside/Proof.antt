@@ -3,10 +3,10 @@
 use mathlib.Core.Path.{sym}
 use native.Mathlib.Omega.{arith}
 use borrow.Author.Tests.{lt-leb}
-use Rattle.rowlist_load.proofs.Laws.Entry.{room-leb}
+use Rattle.rowlist_load.proofs.Laws.Entry.{leb-both}
 use Rattle.rowlist_load.proofs.load.is_inside.Statement.{statement}
 use Rattle.rowlist_load.proofs.load.is_inside.Tie as tie
-use Prim.Native.Nat.{_+_}
+use Prim.Native.Nat.{_+_, _-_}
 
 returns : tie.Need-returns
 returns c =
@@ -16,7 +16,7 @@ returns c =
 returns-2 : tie.Need-returns-2
 returns-2 c =
     let a = c .before .args in
-    room-leb (a .at) (a .len) (a .size) (omega arith)
+    leb-both (a .at) (a .size - a .len) (a .at + a .len) (a .size) (λ h. omega (arith, h)) (λ h. omega (arith, h))
 
 pub is-inside-spec : {M : Type 1} → statement M
 is-inside-spec = tie.close (tie.spec returns returns-2)

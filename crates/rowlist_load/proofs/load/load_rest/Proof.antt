@@ -1,13 +1,13 @@
 -- `rowlist_load::load::load_rest` meets its contract. The loop's invariant: what the entries behind the gateway's come to is what those from
 -- number i on come to after the rows read so far.
 -- Assumes nothing.
-use mathlib.Core.Path.{_≡_, refl, _∙_}
+use mathlib.Core.Path.{_≡_, refl, sym, _∙_}
 use Prim.Native.Nat.{_-_}
 use native.Mathlib.Omega.{arith}
 use borrow.Author.Needs.{needs}
 use lib.ListN.{length}
 use Rattle.table.specs.Rows.{bareTable, rowAt}
-use Rattle.table_load.proofs.Laws.Load.{refused}
+use Rattle.table_load.specs.Load.{loadAnswer}
 use Rattle.rowlist_load.proofs.Laws.Load.{Listing, listing-bad, listing-end, listing-start, listing-step}
 use Rattle.rowlist_load.proofs.load.load_rest.Statement.{statement}
 use Rattle.rowlist_load.proofs.load.load_rest.Tie as tie
@@ -53,11 +53,15 @@ same-length-2 : tie.Need-same-length-2 Inv-loop μ-loop
 same-length-2 c = c .before .before .before .before .before .before .add-entry .kept .1 .1 .0 ∙ c .before .before .before .before .before .before .before .before .before .before .before .loop .inv .1
 
 returns : tie.Need-returns Inv-loop μ-loop
+unfolding loadAnswer
 returns c =
     let add = c .before .before .before .before .before .before in
     let read = add .before .entry-of in
-    refused
-    (listing-bad (add .before .before .before .before .before .loop .inv .2) (read .result) (read .ensures) (add .before .before .before .before .loop-test .taken) (rw (c .enum-told .given .1) at (add .add-entry .ensures)))
+    record {
+      answers = sym (listing-bad (add .before .before .before .before .before .loop .inv .2) (read .result) (read .ensures) (add .before .before .before .before .loop-test .taken)
+          (rw (c .enum-told .given .1) at (add .add-entry .ensures)));
+      kept = tt;
+    }
 
 add-i : tie.Need-add-i Inv-loop μ-loop
 add-i c = omega arith
