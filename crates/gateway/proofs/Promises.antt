@@ -329,7 +329,7 @@ list-rules s rows =
       well-formed = list-well-formed s rows;
       formed-well = list-formed-well s rows;
       front = listed-front s rows;
-      same = λ table k l e f h. listed-same s table rows k l e f h;
+      same = λ table l e f h. listed-same s table rows l e f h;
       written = written s rows;
     }
 

@@ -1,5 +1,5 @@
 -- The page that a reader must believe: what Lesogrom promises, over the definitions that the contracts of `src/entry.rt` cite.
--- Each entry point's result is an equation to one of them (`addressToRecord`, `recordToAddress`, `addSingle`, `addUnit`, `addDd`, `recordOfText`,
+-- Each entry point's result is an equation to one of them (`addressToRecord`, `recordToAddress`, or for a list `toRecordBy`, `toAddressBy`; `addSingle`, `addUnit`, `addDd`, `recordOfText`,
 -- `textOfRecord`, `utcToDate`, `dateToUtc`, `restrictText`, `unrestrictText`, `phrasePlace`), or says `Demand3`, `Routing`, `TailShown` (of `sharedTail`)
 -- or `Shows` (of `readMailbox`) of it. `proofs/Promises.antt` proves every statement of this page.
 -- Assumes nothing.
@@ -191,17 +191,17 @@ pub record TableRules (table : List ℕ) : Type 0 where
   pub well-formed : (t : Table) → loadedFrom table ≡ wellFormed t → (length table ≤ longestTable) × NoneBad (tableLines table)
   pub formed-well : length table ≤ longestTable → NoneBad (tableLines table) → (t : Table) × (loadedFrom table ≡ wellFormed t)
 
--- The same of a list: its entries stand for lines. "The 65,536 bytes bound the text alone", and an empty list is bad at 1.
+-- The same of a list, whose entries stand for lines: "its number counted in list entries, the gateway entry being 1; the 65,536 bytes bound the text
+-- alone and ask nothing of a list". An empty list is bad at 1.
 pub record ListRules (s : List ℕ) (rows : List RowEntry) : Type 0 where
-  pub first-bad : (n : ℕ) → listedFrom s rows ≡ malformed n
-      → ((longestTable < length s) × (n ≡ 0)) ⊎ ((length s ≤ longestTable) × (((rows ≡ []) × (n ≡ 1)) ⊎ FirstBad (map (entryLine s) rows) n))
-  pub bad-first : (n : ℕ) → length s ≤ longestTable → FirstBad (map (entryLine s) rows) n → listedFrom s rows ≡ malformed n
-  pub well-formed : (t : Table) → listedFrom s rows ≡ wellFormed t → (length s ≤ longestTable) × NoneBad (map (entryLine s) rows)
-  pub formed-well : length s ≤ longestTable → NoneBad (map (entryLine s) rows) → (rows ≡ [] → ⊥) → (t : Table) × (listedFrom s rows ≡ wellFormed t)
+  pub first-bad : (n : ℕ) → listedFrom s rows ≡ malformed n → ((rows ≡ []) × (n ≡ 1)) ⊎ FirstBad (map (entryLine s) rows) n
+  pub bad-first : (n : ℕ) → FirstBad (map (entryLine s) rows) n → listedFrom s rows ≡ malformed n
+  pub well-formed : (t : Table) → listedFrom s rows ≡ wellFormed t → (rows ≡ [] → ⊥) × NoneBad (map (entryLine s) rows)
+  pub formed-well : (rows ≡ [] → ⊥) → NoneBad (map (entryLine s) rows) → (t : Table) × (listedFrom s rows ≡ wellFormed t)
   -- entries past the 514th change nothing, since that is bad: the gateway's entry and 512 rows are all that there may be
   pub front : listedFrom s (take 514 rows) ≡ listedFrom s rows
   -- a list whose entries have the fields of a text's lines gives the same table, or the same number
-  pub same : (table : List ℕ) → length s ≤ longestTable → length table ≤ longestTable → all (λ (l : Line). l .ended) (map (entryLine s) rows) ≡ true
+  pub same : (table : List ℕ) → length table ≤ longestTable → all (λ (l : Line). l .ended) (map (entryLine s) rows) ≡ true
       → all (λ (l : Line). l .ended) (tableLines table) ≡ true → map fieldsOf (map (entryLine s) rows) ≡ map fieldsOf (tableLines table)
       → listedFrom s rows ≡ loadedFrom table
   -- and a list that gives a table can be written as a text that gives the same, where that fits

@@ -2,16 +2,16 @@
 -- "The table text".
 -- Assumes nothing.
 use mathlib.Core.Path.{_≡_}
-use mathlib.Core.Bool.{Bool, true, false, _&&_, not, cond}
+use mathlib.Core.Bool.{Bool, true, false, _&&_, not}
 use mathlib.Core.List.{List, [], _∷_, _++_, map}
 use Prim.Native.Nat.{ℕ, _+_}
-use lib.Dec.{leb, ltb, eqb}
+use lib.Dec.{leb, eqb}
 use lib.ListN.{length}
 use Rattle.chars.specs.Lists.{all}
 use Rattle.chars.specs.Parts.{split}
 use Rattle.rowlist.specs.declared.RowEntry.{RowEntry}
 use Rattle.table.specs.Lines as lines
-use Rattle.table.specs.Lines.{hasTag, isRow, longestTable, malformed, readLines, rowOf}
+use Rattle.table.specs.Lines.{hasTag, isRow, readLines, rowOf}
 use Rattle.table.specs.Rows.{RowInside, between, rowAt}
 use Rattle.table.specs.Table.{Token}
 use Rattle.table.specs.declared.line as line
@@ -38,10 +38,11 @@ unfoldable pub entryLine : List ℕ → RowEntry → lines.Line
 unfolding domainPart pathPart isSpelled
 entryLine s e = record { text = e .kind ∷ 9 ∷ (domainPart s e ++ 9 ∷ pathPart s e); ended = isSpelled s e }
 
--- The table that a list spells, or the number of its first bad entry; the gateway's is 1. The 65,536 bytes bound the text alone.
+-- The table that a list spells, or the number of its first bad entry; the gateway's is 1. "the 65,536 bytes bound the text alone
+-- and ask nothing of a list".
 unfoldable pub listedFrom : List ℕ → List RowEntry → lines.TableOutcome
 unfolding entryLine readLines
-listedFrom s es = cond (ltb longestTable (length s)) (malformed 0) (readLines (map (entryLine s) es))
+listedFrom s es = readLines (map (entryLine s) es)
 
 -- ---- lines, as a list and a text share them
 

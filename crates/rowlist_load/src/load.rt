@@ -10,7 +10,6 @@ use table::load::Loaded;
 use table::load::TableRead;
 use table::rows::Key;
 use table::rows::MOST_ROWS;
-use table_load::load::LONGEST_TABLE;
 use table_load::load::RowAdded;
 use table_load::load::join_row;
 ghost use mathlib.Core.Path.{_≡_};
@@ -164,7 +163,7 @@ fn load_rest(
     TableRead::Table(table)
 }
 
-// Reads a list of n entries over a text. The rows go to the two lent lists, each of which has room for all.
+// Reads a list of n entries over a text, which may have any length. The rows go to the two lent lists, each of which has room for all.
 pub fn load_entries(
     text: &[u8],
     numbers: &[usize],
@@ -178,9 +177,6 @@ pub fn load_entries(
     ensures { λ r. ⌜ Loading (now (text .entry)) (listedFrom (now (text .entry)) (entriesOf (now (numbers .entry)) n)) r
         (now («to_path» .exit)) (now («to_domain» .exit)) ⌝ }
 {
-    if LONGEST_TABLE < text.len() {
-        return TableRead::Malformed(0);
-    }
     if n == 0 {
         return TableRead::Malformed(1);
     }

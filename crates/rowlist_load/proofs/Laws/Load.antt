@@ -5,14 +5,13 @@ use mathlib.Core.Bool.{Bool, true, false, _&&_, _||_, not}
 use mathlib.Core.List.{List, [], _∷_, map}
 use Prim.Native.Nat.{ℕ, zero, suc, _+_, _-_, _*_, _≤_, _<_}
 use native.Mathlib.Omega.{arith}
-use borrow.Author.Tests.{le-ltb, lt-ltb}
 use lib.ListN.{length}
 use Rattle.chars.specs.Parts.{split}
 use Rattle.chars.proofs.Laws.Lists.{and-left, and-right, by-test, one-less}
 use Rattle.rowlist.specs.Entries.{entriesFrom, entriesOf, entryAt}
 use Rattle.rowlist.specs.declared.RowEntry.{RowEntry}
 use Rattle.table.specs.Table.{Table, Token}
-use Rattle.table.specs.Lines.{Line, badGateway, badRow, gatewayTable, hasTag, isGatewayLine, isRow, longestGatewayDomain, longestRowDomain, longestTable, malformed, mostRows, readLines, readRows, rowOf}
+use Rattle.table.specs.Lines.{Line, badGateway, badRow, gatewayTable, hasTag, isGatewayLine, isRow, longestGatewayDomain, longestRowDomain, malformed, mostRows, readLines, readRows, rowOf}
 use Rattle.table.specs.Rows.{RowInside, bareTable, rowAt, rowsAt, rowsFrom, rowsSize, tableAt}
 use Rattle.table.specs.declared.line as line
 use Rattle.table.specs.declared.load as loaded
@@ -143,13 +142,9 @@ module _ {s ns : List ℕ} {n : ℕ} {start : Table} {ds rs : List ℕ} {t : loa
 
 -- ---- the whole list
 
-pub listed-large : (s : List ℕ) (es : List RowEntry) → longestTable < length s → listedFrom s es ≡ malformed 0
+pub listed-lines : (s : List ℕ) (es : List RowEntry) → listedFrom s es ≡ readLines (map (entryLine s) es)
 unfolding listedFrom
-listed-large s es h = rw (lt-ltb longestTable (length s) h)
-
-pub listed-lines : (s : List ℕ) (es : List RowEntry) → length s ≤ longestTable → listedFrom s es ≡ readLines (map (entryLine s) es)
-unfolding listedFrom
-listed-lines s es h = rw (le-ltb longestTable (length s) h)
+listed-lines s es = refl
 
 not-both : (a b : Bool) → (not a || not b) ≡ not (a && b)
 not-both true b = refl
@@ -160,16 +155,16 @@ pub gateway-test : (s : List ℕ) (e : RowEntry) → badGateway (entryLine s e) 
 unfolding badGateway isGatewayLine isEntry
 gateway-test s e = not-both (entryLine s e .ended) (isGatewayLine (split 9 (entryLine s e .text)))
 
-module _ (s ns : List ℕ) (n : ℕ) (l : length s ≤ longestTable) where
+module _ (s ns : List ℕ) (n : ℕ) where
   pub listed-none : n ≡ 0 → listedFrom s (entriesOf ns n) ≡ malformed 1
   unfolding readLines entriesFrom
-  listed-none z = listed-lines s (entriesOf ns n) l ∙ ap (λ (m : ℕ). readLines (map (entryLine s) (entriesFrom ns 0 m))) z
+  listed-none z = listed-lines s (entriesOf ns n) ∙ ap (λ (m : ℕ). readLines (map (entryLine s) (entriesFrom ns 0 m))) z
 
   -- e is the gateway's entry
   module _ (e : RowEntry) (q : e ≡ entryAt ns 0) (h : 1 ≤ n) where
     listed-first : listedFrom s (entriesOf ns n) ≡ readLines (entryLine s e ∷ map (entryLine s) (entriesFrom ns 5 (n - 1)))
     listed-first =
-        listed-lines s (entriesOf ns n) l
+        listed-lines s (entriesOf ns n)
         ∙ ap (λ (es : List RowEntry). readLines (map (entryLine s) es))
         (entries-first ns 0 n h ∙ ap (λ (f : RowEntry). f ∷ entriesFrom ns 5 (n - 1)) (sym q))
 

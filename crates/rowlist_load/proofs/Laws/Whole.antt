@@ -2,12 +2,12 @@
 -- text with the same fields spells.
 -- Assumes nothing.
 use mathlib.Core.Path.{_≡_, refl, sym, ap, ap₂, _∙_}
-use mathlib.Core.Bool.{Bool, true, false, _||_, not, cond}
+use mathlib.Core.Bool.{Bool, true, false, _||_, not}
 use mathlib.Core.List.{List, [], _∷_, map}
 use Prim.Native.Nat.{ℕ, zero, suc, _+_, _≤_, _<_}
 use native.Mathlib.Omega.{arith}
 use borrow.Author.Tests.{leb-false}
-use lib.Dec.{leb, ltb}
+use lib.Dec.{leb}
 use lib.ListN.{length, take, length-append}
 use Rattle.chars.specs.Lists.{all}
 use Rattle.chars.specs.Parts.{join, split}
@@ -40,10 +40,7 @@ lines-rules (l ∷ ls) = by-outcome (readLines (l ∷ ls)) refl
 -- a table that a list spells keeps the rules of "The table text"
 pub listed-rules : (s : List ℕ) (es : List RowEntry) → FormedBy (listedFrom s es)
 unfolding listedFrom
-listed-rules s es =
-    by-test (ltb longestTable (length s))
-    (λ e. rw e tt)
-    (λ e. rw e (lines-rules (map (entryLine s) es)))
+listed-rules s es = lines-rules (map (entryLine s) es)
 
 -- so a table that was read from a list is ready for a run
 pub listing-ready : (s ds rs : List ℕ) (es : List RowEntry) (r : TableRead) → Loading s (listedFrom s es) r ds rs → Ready s ds rs r
@@ -92,8 +89,7 @@ lines-front (l ∷ ls) =
 
 pub listed-front : (s : List ℕ) (es : List RowEntry) → listedFrom s (take 514 es) ≡ listedFrom s es
 unfolding listedFrom
-listed-front s es =
-    ap (λ (o : lines.TableOutcome). cond (ltb longestTable (length s)) (malformed 0) o) (ap readLines (map-take (entryLine s) 514 es) ∙ lines-front (map (entryLine s) es))
+listed-front s es = ap readLines (map-take (entryLine s) 514 es) ∙ lines-front (map (entryLine s) es)
 
 -- ---- the same table as a text's
 
@@ -111,9 +107,9 @@ lines-known (l ∷ ls) h =
     (lines-known ls (and-right (l .ended) (all (λ k. k .ended) ls) h))
 
 -- A list whose entries have the fields of a text's lines, one by one, spells the table that the text spells.
-pub same-table : (s table : List ℕ) (es : List RowEntry) → length s ≤ longestTable → length table ≤ longestTable
+pub same-table : (s table : List ℕ) (es : List RowEntry) → length table ≤ longestTable
     → all (λ l. l .ended) (map (entryLine s) es) ≡ true → all (λ l. l .ended) (tableLines table) ≡ true
     → map fieldsOf (map (entryLine s) es) ≡ map fieldsOf (tableLines table) → listedFrom s es ≡ loadedFrom table
-same-table s table es l m e f h =
+same-table s table es m e f h =
     let same : map (entryLine s) es ≡ tableLines table = sym (lines-known (map (entryLine s) es) e) ∙ ap (map lineOf) h ∙ lines-known (tableLines table) f in
-    listed-lines s es l ∙ ap readLines same ∙ sym (loaded-lines table m)
+    listed-lines s es ∙ ap readLines same ∙ sym (loaded-lines table m)

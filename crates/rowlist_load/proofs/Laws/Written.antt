@@ -5,8 +5,8 @@ use mathlib.Core.Bool.{Bool, true, false, _&&_, _||_, not}
 use mathlib.Core.List.{List, [], _∷_, map}
 use Prim.Native.Nat.{ℕ, suc, _+_, _≤_}
 use native.Mathlib.Omega.{arith}
-use borrow.Author.Tests.{ltb-false, not-false}
-use lib.Dec.{leb, ltb}
+use borrow.Author.Tests.{not-false}
+use lib.Dec.{leb}
 use lib.ListN.{length}
 use Rattle.chars.specs.Lists.{all, nonEmpty}
 use Rattle.chars.specs.Parts.{split}
@@ -102,9 +102,6 @@ lines-written s (e ∷ es) u h =
 -- Where a list spells a table, the text of its lines spells the same one, if it is no longer than a table text may be.
 pub written : (s : List ℕ) (es : List RowEntry) (u : Table) → listedFrom s es ≡ wellFormed u
     → length (linesText (map (entryLine s) es)) ≤ longestTable → loadedFrom (linesText (map (entryLine s) es)) ≡ wellFormed u
-unfolding listedFrom
 written s es u h l =
-    by-test (ltb longestTable (length s))
-    (λ b. let g : malformed 0 ≡ wellFormed u = rw b at h in let z : _≡_ {A = ℕ} 0 1 = cc in absurd (omega arith))
-    (λ b. let g : readLines (map (entryLine s) es) ≡ wellFormed u = sym (listed-lines s es (ltb-false longestTable (length s) b)) ∙ h in
-    loaded-lines (linesText (map (entryLine s) es)) l ∙ ap readLines (lines-written s es u g) ∙ g)
+    let g : readLines (map (entryLine s) es) ≡ wellFormed u = sym (listed-lines s es) ∙ h in
+    loaded-lines (linesText (map (entryLine s) es)) l ∙ ap readLines (lines-written s es u g) ∙ g
