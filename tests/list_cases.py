@@ -23,7 +23,7 @@ WORD = 1 << 64
 LAST = WORD - 1
 # The most entries, and standard input, at most.
 ENTRIES = 513
-ROOM = 1048576
+ROOM = 2097152
 
 
 # The rules
@@ -171,6 +171,15 @@ def bad_entries(cases):
         at_three_places(cases, lambda built, entry: (entry[0], *built.put(domain), *entry[3:]))
     for path in BAD_PATHS:
         at_three_places(cases, lambda built, entry: (*entry[:3], *built.put(path)))
+    # too long for a row, and not for the gateway
+    at_three_places(cases, lambda built, entry: (entry[0], *built.put(b"x" * 36 + b".test"), *entry[3:]))
+    # of two bad entries the first counts, whatever is bad about them
+    for first, second in ((0, 1), (0, 4), (1, 2), (2, 3), (2, 4), (3, 4)):
+        for one, other in ((0, 1), (1, 3), (3, 1), (2, 4), (4, 0)):
+            built = list_of(PORTS)
+            for number, field in ((first, one), (second, other)):
+                built.entries[number] = built.entries[number][:field] + (LAST,) + built.entries[number][field + 1 :]
+            built.load(cases)
     built = list_of(PORTS)
     for number in (0, 2, 4):
         entry, size = built.entries[number], len(built.text)
@@ -178,6 +187,30 @@ def bad_entries(cases):
             cases.load(built.text, built.entries[:number] + [(entry[0], *bad, *entry[3:])] + built.entries[number + 1 :])
         for bad in bad_places(*entry[3:5], size):
             cases.load(built.text, built.entries[:number] + [(*entry[:3], *bad)] + built.entries[number + 1 :])
+
+
+def past_the_end(cases):
+    """Parts that reach past the text by a byte or more, in texts that end in a good part: behind its text the program has letters, so
+    that such a part would keep the rules if it were read."""
+    for text, domain, path in (
+        (b"XY\tPd.test", (4, 6), (0, 4)),
+        (b"d.testXY\tP", (0, 6), (6, 4)),
+        (b"XY\tP", (3, 1), (0, 4)),
+        (b"XY\t0", (3, 1), (0, 4)),
+    ):
+        good = [(kind, *domain, *path) for kind in (G, D, R)]
+        cases.load(text, good)
+        for number, entry in enumerate(good):
+            for more in (1, 2, 8, LAST - len(text)):
+                for bad in (
+                    (entry[0], domain[0], len(text) - domain[0] + more, *path),
+                    (entry[0], len(text) - 1 + more, 1, *path),
+                    (*entry[:3], path[0], len(text) - path[0] + more),
+                    (entry[0], 0, len(text) + more, *path),
+                    (*entry[:3], 0, len(text) + more),
+                    (entry[0], LAST, more + 1, *path),
+                ):
+                    cases.load(text, good[:number] + [bad] + good[number + 1 :])
 
 
 def repeated_rows(cases):
@@ -282,6 +315,11 @@ def long_texts(cases):
     built.load(cases)
     cases.domain(b"brack.hull.test")
     cases.levels([b"XY", b"PORTNET", b"HULL"])
+    # at the bound and just past it, and a bad entry in a text past it: the number beside 7 is never 0
+    for size, last in ((65536, b"XY\tP"), (65537, b"XY\tP"), (65537, b"XY\tP\tQ\t")):
+        text = b"gw.test" + b"\0" * (size - 7 - len(last)) + last
+        path = size - len(last), len(last)
+        cases.load(text, [(G, 0, 7, size - len(last), 4), (D, 0, 7, *path), (R, 3, 4, *path)])
     # a small text that spells more than 65,536 bytes: domains of 39, and paths of up to 234
     path = b"\t".join([b"124", b"A" * 16, b"b" * 16, b"c" * 64, b"D" * 32, b"e" * 32, b"f" * 32])
     text = path + b"\t" + b"g" * 32 + b"".join(b"%03d." % i for i in range(1000)) + b"x" * 40
@@ -460,7 +498,7 @@ def random_rows(cases):
                     cases.levels(levels_near(rng, rows))
 
 
-LOADS = [bad_entries, repeated_rows, bounds, many_entries, places, long_texts]
+LOADS = [past_the_end, bad_entries, repeated_rows, bounds, many_entries, places, long_texts]
 FAMILIES = LOADS + [near_domains, chain_domains, near_paths, chain_paths, random_rows]
 
 

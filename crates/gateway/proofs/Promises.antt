@@ -62,7 +62,8 @@ use Rattle.rowlist_load.proofs.Laws.Written.{written}
 use Rattle.gateway_mailbox.proofs.Laws.Mailboxes.{place-inside, result-inside}
 use Rattle.gateway_pack.proofs.Laws.Packed.{count-back, count-number, number-back, size-back}
 use Rattle.gateway_text.specs.Texts.{readOutcome, recordOfText, textOfRecord}
-use Rattle.gateway.specs.Exports.{addressToText, readingToAddress, textResult, textToAddress, textToAddressBy}
+use Rattle.gateway_export.specs.Exports.{readingToAddress, textResult, textToAddressBy}
+use Rattle.gateway.specs.Exports.{addressToText, textToAddress}
 use Rattle.gateway.specs.Promises.{Accepted, AddressRules, Dates, Demand1, Demand2, Demand3Exactly, EndsBuffer, EndsRecord, Judgement, Limits, ListRules, MailboxRules, Mailboxes, Packing, Promises, RecordRules, Restricted, Returns, Router, SharedTails, Source, Struct, Texts, addressTo, recordTo, spelling, withoutLine}
 use native.Mathlib.Nat.{zero-add}
 use Rattle.chars.specs.Parts.{run}
@@ -75,7 +76,7 @@ use Rattle.router.specs.Run.{called, ended}
 use Rattle.gateway.proofs.Laws.Entire.{addition-ends, short-shape, source-formed, source-rules, under-table, unshortened}
 use Rattle.table.proofs.Laws.FirstBad.{bad-first, first-bad, formed-well, well-formed}
 use Rattle.mapping.proofs.Laws.Carried.{carried-is}
-use Rattle.gateway.proofs.Laws.Exports.{not-canonical}
+use Rattle.gateway_export.proofs.Laws.Exports.{not-canonical}
 
 -- ---- a table text
 

@@ -1,84 +1,18 @@
--- What the functions for C of the two mappings and of the check return: a number and a count in one value, and the text in the lent buffer.
+-- What the functions for C of the two mappings return under a table text: the value and the buffer are those of a result.
 -- Assumes nothing.
-use mathlib.Core.Path.{_≡_}
-use mathlib.Core.Logic.{_⊎_}
-use mathlib.Core.Bool.{cond}
 use mathlib.Core.List.{List}
 use Prim.Native.Nat.{ℕ}
-use lib.Dec.{eqb}
-use lib.ListN.{length}
-use Rattle.oraddr.specs.View.{emptyRecord, view}
-use Rattle.oraddr.specs.declared.record.Record.{Record}
-use Rattle.ortext_read.specs.Apply.{Reading, again, read, readText, refused, unread}
-use Rattle.ortext_segments.specs.Keys.{keys}
-use Rattle.ortext_write.specs.Write.{recordText}
-use Rattle.table.specs.Lines.{TableOutcome, loadedFrom, malformed, wellFormed}
-use Rattle.table.specs.Table.{Table}
-use Rattle.mapping.specs.Results.{AddressResult, RecordResult, malformedAddress, placed, refusedAddress}
-use Rattle.mapping.specs.ToAddress.{toAddress}
+use Rattle.table.specs.Lines.{loadedFrom}
+use Rattle.mapping.specs.Results.{AddressResult}
 use Rattle.mapping.specs.ToRecord.{addressToRecord}
-use Rattle.soundness.specs.Sound.{Sound, Witness}
-use Rattle.gateway_pack.specs.Filled.{filled}
-use Rattle.gateway_pack.specs.Packed.{packedCount}
-
--- the number, and 16 times the length that was written, or with 7 the line
-abbrev pub packed : AddressResult → ℕ
-packed o = packedCount (o .number) (o .line) (o .size)
-
--- the value that is returned and the buffer, of a result
-pub record Exported (o : AddressResult) (r : ℕ) (new : List ℕ) : Type 0 where
-  pub value : r ≡ packed o
-  pub buffer : new ≡ o .buffer
+use Rattle.gateway_export.specs.Exports.{textResult, textToAddressBy}
 
 -- an address to a record's text: 7, 2, 1, 3, and last 6, where the buffer is shorter than the text
-unfoldable pub textResult : RecordResult → List ℕ → AddressResult
-unfolding placed recordText keys view
-textResult o old =
-    cond (eqb (o .number) 0)
-    (placed (recordText keys (view (o .record'))) old)
-    (record { number = o .number; line = o .line; size = 0; buffer = old })
-
 unfoldable pub addressToText : List ℕ → List ℕ → List ℕ → AddressResult
 unfolding textResult addressToRecord
 addressToText table s old = textResult (addressToRecord table s) old
 
 -- a record text to an address: 7, 4 where it does not read as a canonical record, 5, 6
-unfoldable pub readingToAddress : Table → Reading → List ℕ → AddressResult
-unfolding refusedAddress toAddress
-readingToAddress t unread old = refusedAddress 4 old
-readingToAddress t refused old = refusedAddress 4 old
-readingToAddress t again old = refusedAddress 4 old
-readingToAddress t (read r) old = toAddress t r old
-
-unfoldable pub textToAddressBy : TableOutcome → List ℕ → List ℕ → AddressResult
-unfolding malformedAddress readingToAddress readText keys
-textToAddressBy (malformed l) s old = malformedAddress l old
-textToAddressBy (wellFormed t) s old = readingToAddress t (readText keys 0 emptyRecord s) old
-
 unfoldable pub textToAddress : List ℕ → List ℕ → List ℕ → AddressResult
 unfolding textToAddressBy loadedFrom
 textToAddress table s old = textToAddressBy (loadedFrom table) s old
-
--- ---- the check
-
--- 0: every canonical record that is no carrier comes back
-pub record TellsSound (t : Table) (old : List ℕ) (r : ℕ) (new : List ℕ) : Type 0 where
-  pub sound : Sound t
-  pub value : r ≡ packedCount 0 0 0
-  pub buffer : new ≡ old
-
--- 8: a witness, with its text's length, and its text if that fits
-pub record TellsWitness (t : Table) (old : List ℕ) (r : ℕ) (new : List ℕ) : Type 0 where
-  pub shown : Record
-  pub witness : Witness t shown
-  pub value : r ≡ packedCount 8 0 (length (recordText keys (view shown)))
-  pub buffer : new ≡ filled (recordText keys (view shown)) old
-
--- 7: the first bad line
-pub record TellsMalformed (n : ℕ) (old : List ℕ) (r : ℕ) (new : List ℕ) : Type 0 where
-  pub value : r ≡ packedCount 7 n 0
-  pub buffer : new ≡ old
-
-abbrev pub ExportedCheck : TableOutcome → List ℕ → ℕ → List ℕ → Type 0
-ExportedCheck (malformed n) old r new = TellsMalformed n old r new
-ExportedCheck (wellFormed t) old r new = TellsSound t old r new ⊎ TellsWitness t old r new

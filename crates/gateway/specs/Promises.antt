@@ -61,7 +61,8 @@ use Rattle.router.specs.Run.{Calls, Routing, whole}
 use Rattle.router.specs.declared.run.Routed.{Routed}
 use Rattle.gateway_pack.specs.Packed.{lengthLimit, numberLimit, packedCount, packedPlace, packedText, placeLimit}
 use Rattle.gateway_text.specs.Texts.{recordOfText, textOfRecord}
-use Rattle.gateway.specs.Exports.{addressToText, packed, textResult, textToAddress, textToAddressBy}
+use Rattle.gateway_export.specs.Exports.{packed, textResult, textToAddressBy}
+use Rattle.gateway.specs.Exports.{addressToText, textToAddress}
 
 -- What every record struct has: as many values, units and DDs as its type says. (The definitions are over lists, which could have any length.)
 -- `is_struct` of `src/lib.rt` takes any record and promises this of it, so that no promise about records leaves one out.

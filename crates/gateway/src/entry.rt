@@ -1,7 +1,11 @@
-// Every entry point of the library, each with its promise. Each takes any bytes. Those for record text by itself, the router, dates,
-// the restricted encoding and mailboxes stand with their contracts in the crates that the lines below name.
+// Every entry point of the library, each with its promise. Each takes any bytes. Those under a list of rows, and those for record text by
+// itself, the router, dates, the restricted encoding and mailboxes stand with their contracts in the crates that the lines below name.
 pub use gateway_dates::date_to_822;
 pub use gateway_dates::date_to_x400;
+pub use gateway_list::lists::check_list;
+pub use gateway_list::lists::list_to_address;
+pub use gateway_list::lists::list_to_record;
+pub use gateway_list::lists::route_list;
 pub use gateway_mailbox::mailbox;
 pub use gateway_mailbox::phrase_place;
 pub use gateway_restricted::restrict;

@@ -5,60 +5,33 @@ use crate::entry::to_address;
 use crate::entry::to_record;
 use gateway_dates::packed_date_to_822;
 use gateway_dates::packed_date_to_x400;
+use gateway_export::pack_address;
+use gateway_export::pack_check;
+use gateway_export::pack_record;
 use gateway_mailbox::packed_mailbox;
 use gateway_mailbox::packed_phrase;
-use gateway_pack::NUMBER_LIMIT;
-use gateway_pack::pack;
 use gateway_restricted::packed_restrict;
 use gateway_restricted::packed_unrestrict;
 use gateway_route::route;
 use gateway_text::read::read_record;
-use gateway_text::write::show;
-use gateway_text::write::write_canonical;
-use mapping::answers::ToAddress;
-use mapping::answers::address_line;
-use mapping::answers::address_number;
-use mapping::answers::record_line;
-use mapping::answers::record_number;
-use soundness::answers::CheckAnswer;
 ghost use mathlib.Core.Path.{_≡_};
-ghost use mathlib.Core.List.{[]};
-ghost use Prim.Native.Nat.{_≤_};
 ghost use lib.ListN.{length};
 ghost use Rattle.mailaddr.specs.Tail.{sharedTail};
 ghost use Rattle.table.specs.Lines.{loadedFrom};
-ghost use Rattle.mapping.specs.Answers.{addressBadLine, toldAddress};
 ghost use Rattle.router.specs.Run.{Routing};
 ghost use Rattle.dates.specs.Convert.{dateToUtc, utcToDate};
 ghost use Rattle.restricted.specs.Convert.{restrictText, unrestrictText};
 ghost use Rattle.mailbox.specs.Mailbox.{phrasePlace, readMailbox};
-ghost use Rattle.gateway_pack.specs.Packed.{ExportedText, mostCount, packedPlace};
-ghost use Rattle.gateway.specs.Exports.{Exported, ExportedCheck, addressToText, packed, textToAddress};
-
-// A mapping's result in one value.
-fn pack_address(done: ToAddress) -> usize
-    requires { ⌜ done .size ≤ mostCount ⌝ }
-    requires { ⌜ addressBadLine (done .answer) ≤ mostCount ⌝ }
-    ensures { λ r. ⌜ r ≡ packed (toldAddress done []) ⌝ }
-{
-    let answer = done.answer;
-    let number = address_number(answer);
-    pack(number, address_line(answer), done.size)
-}
+ghost use Rattle.gateway_pack.specs.Packed.{ExportedText, packedPlace};
+ghost use Rattle.gateway_export.specs.Exports.{Exported, ExportedCheck};
+ghost use Rattle.gateway.specs.Exports.{addressToText, textToAddress};
 
 // An address to a record's text in `out`.
 #[no_mangle]
 pub extern "C" fn gateway_to_record(table: &[u8], address: &[u8], out: &mut [u8]) -> usize
     ensures { λ r. ⌜ Exported (addressToText (now (table .entry)) (now (address .entry)) (now (out .entry))) r (now (out .exit)) ⌝ }
 {
-    let done = to_record(table, address);
-    let answer = done.answer;
-    let number = record_number(answer);
-    if number == 0 {
-        let rec = done.record;
-        return pack_address(write_canonical(rec, out));
-    }
-    pack(number, record_line(answer), 0)
+    pack_record(to_record(table, address), out)
 }
 
 // A record text to an address in `out`. A text that gives no canonical record gives an empty one, which has the refusals of any that is not
@@ -77,14 +50,7 @@ pub extern "C" fn gateway_to_address(table: &[u8], record_text: &[u8], out: &mut
 pub extern "C" fn gateway_check(table: &[u8], out: &mut [u8]) -> usize
     ensures { λ r. ⌜ ExportedCheck (loadedFrom (now (table .entry))) (now (out .entry)) r (now (out .exit)) ⌝ }
 {
-    let done = check(table);
-    let answer = done.answer;
-    let rec = done.record;
-    match answer {
-        CheckAnswer::Sound => 0,
-        CheckAnswer::Unsound => 8 + NUMBER_LIMIT * show(rec, out),
-        CheckAnswer::Malformed(line) => 7 + NUMBER_LIMIT * line,
-    }
+    pack_check(check(table), out)
 }
 
 // The length of the tail that two domains share.

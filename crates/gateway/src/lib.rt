@@ -1,6 +1,7 @@
 // The public face of Lesogrom: every entry point, and the functions for C. None has a `requires`.
 pub mod entry;
 pub mod exports;
+pub mod lists;
 
 use oraddr::record::Record;
 ghost use Rattle.gateway.specs.Promises.{Promises, Struct};

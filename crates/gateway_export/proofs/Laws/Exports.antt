@@ -1,6 +1,6 @@
--- What the functions for C return, from what the entry points told them.
+-- What is packed for C, from what the mappings and the check told, under what any table comes to.
 -- Assumes nothing.
-use mathlib.Core.Path.{_≡_, refl, sym, ap, _∙_}
+use mathlib.Core.Path.{_≡_, refl, sym, ap, subst, _∙_}
 use mathlib.Core.Logic.{inl, inr}
 use mathlib.Core.Bool.{true, false}
 use mathlib.Core.List.{List, []}
@@ -22,13 +22,13 @@ use Rattle.ortext_read.specs.Apply.{again, read, readText, refused, unread}
 use Rattle.ortext_segments.specs.Keys.{keys}
 use Rattle.ortext_write.specs.Write.{recordText, remaining}
 use Rattle.ortext_write.proofs.Laws.Write.{text-bound}
-use Rattle.table.specs.Lines.{TableOutcome, loadedFrom, malformed, wellFormed}
+use Rattle.table.specs.Lines.{TableOutcome, malformed, wellFormed}
 use Rattle.table.specs.Table.{Table}
-use Rattle.table.proofs.Laws.Formed.{loaded-formed}
+use Rattle.table_load.specs.Load.{FormedBy}
 use Rattle.mapping.specs.Answers.{addressBadLine, addressNumber, recordBadLine, recordNumber, toldAddress, toldRecord}
 use Rattle.mapping.specs.Results.{AddressResult, RecordResult, malformedRecord, placed, refusedAddress}
-use Rattle.mapping.specs.ToAddress.{recordToAddress, toAddress, toAddressBy}
-use Rattle.mapping.specs.ToRecord.{addressToRecord, toRecordBy}
+use Rattle.mapping.specs.ToAddress.{toAddress, toAddressBy}
+use Rattle.mapping.specs.ToRecord.{toRecordBy}
 use Rattle.mapping.specs.declared.answers.AddressAnswer.{AddressAnswer}
 use Rattle.mapping.specs.declared.answers.AddressAnswer.the-variants as address-answer
 use Rattle.mapping.specs.declared.answers.ToAddress.{ToAddress}
@@ -41,8 +41,8 @@ use Rattle.gateway_pack.specs.Filled.{ShownText}
 use Rattle.gateway_pack.specs.Packed.{mostCount, numberLimit, packedCount}
 use Rattle.gateway_text.specs.Texts.{readOutcome, recordOfText}
 use Rattle.gateway_text.proofs.Laws.Texts.{outcome-done, outcome-not}
-use Rattle.gateway.specs.Exports.{Exported, ExportedCheck, addressToText, packed, readingToAddress, textResult, textToAddress, textToAddressBy}
-use Rattle.gateway.proofs.Laws.Bounds.{address-bound, line-bound, placed-line, placed-size, record-line-bound}
+use Rattle.gateway_export.specs.Exports.{Exported, ExportedCheck, Packable, PackableCheck, packed, readingToAddress, textResult, textToAddressBy}
+use Rattle.gateway_export.proofs.Laws.Bounds.{Counted, address-bound, placed-line, placed-size, record-line-bound}
 
 pub number-small : (a : AddressAnswer) → addressNumber a ≤ 7
 unfolding addressNumber
@@ -59,11 +59,6 @@ exported o w r new e k = record { value = k ∙ ap packed e; buffer = ap (λ (x 
 
 -- ---- an address to a record's text
 
-loaded-canonical : (table s : List ℕ) (l : TableOutcome) → loadedFrom table ≡ l → toRecordBy l s .number ≡ 0 → canonicalRecord (toRecordBy l s .record') ≡ true
-unfolding toRecordBy malformedRecord
-loaded-canonical table s (malformed n) e h = absurd (omega arith)
-loaded-canonical table s (wellFormed t) e h = done-canonical t (loaded-formed table t e) s h
-
 pub refused-small : (a : RecordAnswer) → recordNumber a ≤ 7
 unfolding recordNumber
 refused-small record-answer.Done = omega arith
@@ -72,33 +67,23 @@ refused-small record-answer.TooLong = omega arith
 refused-small record-answer.TooLongCoded = omega arith
 refused-small (record-answer.Malformed l) = omega arith
 
-module _ (table s old : List ℕ) (x : ToRecord) (e : toldRecord x ≡ addressToRecord table s) (n : ℕ) (k : n ≡ recordNumber (x .answer)) where
-  number-is : addressToRecord table s .number ≡ n
-  unfolding toldRecord
-  number-is = ap (λ (o : RecordResult). o .number) (sym e) ∙ sym k
+table-canonical : (l : TableOutcome) (s : List ℕ) → FormedBy l → toRecordBy l s .number ≡ 0 → canonicalRecord (toRecordBy l s .record') ≡ true
+unfolding toRecordBy malformedRecord
+table-canonical (malformed n) s f h = absurd (omega arith)
+table-canonical (wellFormed t) s f h = done-canonical t f s h
 
-  record-is : addressToRecord table s .record' ≡ x .«record»
-  unfolding toldRecord
-  record-is = ap (λ (o : RecordResult). o .record') (sym e)
+-- what a mapping tells can be packed
+pub packable : (l : TableOutcome) (s : List ℕ) (o : RecordResult) → Counted l → FormedBy l → o ≡ toRecordBy l s → Packable o
+packable l s o h f e = subst Packable (sym e) (record { line = record-line-bound l s h; canonical = table-canonical l s f })
 
-  line-is : addressToRecord table s .line ≡ recordBadLine (x .answer)
-  unfolding toldRecord
-  line-is = ap (λ (o : RecordResult). o .line) (sym e)
+module _ (x : ToRecord) (old : List ℕ) (n : ℕ) (k : n ≡ recordNumber (x .answer)) where
+  pub text-done : n ≡ 0 → placed (recordText keys (view (x .«record»))) old ≡ textResult (toldRecord x) old
+  unfolding textResult toldRecord
+  text-done z = rw (sym k, z)
 
-  pub line-small : recordBadLine (x .answer) ≤ mostCount
-  line-small = omega (arith, line-is, record-line-bound table s)
-
-  pub text-canonical : n ≡ 0 → canonicalRecord (x .«record») ≡ true
-  unfolding addressToRecord
-  text-canonical z = ap canonicalRecord (sym record-is) ∙ loaded-canonical table s (loadedFrom table) refl (number-is ∙ z)
-
-  pub text-done : n ≡ 0 → placed (recordText keys (view (x .«record»))) old ≡ addressToText table s old
-  unfolding addressToText textResult
-  text-done z = rw (number-is, z, record-is)
-
-  pub text-not : (n ≡ 0 → ⊥) → (r : ℕ) → r ≡ packedCount n (recordBadLine (x .answer)) 0 → Exported (addressToText table s old) r old
-  unfolding addressToText textResult
-  text-not z r h = record { value = h ∙ rw (number-is, ne-eqb n 0 z, line-is); buffer = rw (number-is, ne-eqb n 0 z) }
+  pub text-not : (n ≡ 0 → ⊥) → (r : ℕ) → r ≡ packedCount n (recordBadLine (x .answer)) 0 → Exported (textResult (toldRecord x) old) r old
+  unfolding textResult toldRecord
+  text-not z r h = record { value = h ∙ rw (sym k, ne-eqb n 0 z); buffer = rw (sym k, ne-eqb n 0 z) }
 
 -- the text of a canonical record is short
 pub text-counts : (r : Record) (old new : List ℕ) (w : ToAddress) → canonicalRecord r ≡ true → toldAddress w new ≡ placed (recordText keys (view r)) old
@@ -138,22 +123,21 @@ module _ (t : Table) (old : List ℕ) where
       (λ c. ap (λ (o : Outcome). toAddress t (o .record') old) (sym (outcome-done r c)))
       (λ c. ap (λ (o : Outcome). toAddress t (o .record') old) (sym (outcome-not r c)) ∙ empty-refused ∙ sym (refused-by r c))
 
-text-address : (l : TableOutcome) (s old : List ℕ) → toAddressBy l (recordOfText s .record') old ≡ textToAddressBy l s old
+read-by : (l : TableOutcome) (s old : List ℕ) → toAddressBy l (recordOfText s .record') old ≡ textToAddressBy l s old
 unfolding toAddressBy textToAddressBy recordOfText
-text-address (malformed n) s old = refl
-text-address (wellFormed t) s old = read-address t old (readText keys 0 emptyRecord s)
+read-by (malformed n) s old = refl
+read-by (wellFormed t) s old = read-address t old (readText keys 0 emptyRecord s)
 
-pub text-to-address : (table s old : List ℕ) (d : Addition) → told d ≡ recordOfText s → recordToAddress table (d .«record») old ≡ textToAddress table s old
-unfolding recordToAddress textToAddress
-text-to-address table s old d e = ap (λ (o : Outcome). toAddressBy (loadedFrom table) (o .record') old) e ∙ text-address (loadedFrom table) s old
+pub text-to-address : (l : TableOutcome) (s old : List ℕ) (d : Addition) → told d ≡ recordOfText s → toAddressBy l (d .«record») old ≡ textToAddressBy l s old
+text-to-address l s old d e = ap (λ (o : Outcome). toAddressBy l (o .record') old) e ∙ read-by l s old
 
-pub address-counts : (table : List ℕ) (r : Record) (old new : List ℕ) (w : ToAddress) → toldAddress w new ≡ recordToAddress table r old
+pub address-counts : (l : TableOutcome) (r : Record) (old new : List ℕ) (w : ToAddress) → Counted l → FormedBy l → toldAddress w new ≡ toAddressBy l r old
     → (w .size ≤ mostCount) × (addressBadLine (w .answer) ≤ mostCount)
 unfolding toldAddress
-address-counts table r old new w e =
-    let n : w .size ≡ recordToAddress table r old .size = ap (λ (o : AddressResult). o .size) e in
-    let m : addressBadLine (w .answer) ≡ recordToAddress table r old .line = ap (λ (o : AddressResult). o .line) e in
-    (omega (arith, address-bound old table r .0), omega (arith, address-bound old table r .1))
+address-counts l r old new w h f e =
+    let n : w .size ≡ toAddressBy l r old .size = ap (λ (o : AddressResult). o .size) e in
+    let m : addressBadLine (w .answer) ≡ toAddressBy l r old .line = ap (λ (o : AddressResult). o .line) e in
+    (omega (arith, address-bound old l r h f .0), omega (arith, address-bound old l r h f .1))
 
 -- ---- the check
 
@@ -183,14 +167,11 @@ tells-malformed (malformed n) o old d h = record { value = ap (λ (m : ℕ). 7 +
 tells-malformed (wellFormed t) o old (inl a) h = absurd (omega (arith, a .number))
 tells-malformed (wellFormed t) o old (inr r) h = absurd (omega (arith, r .number))
 
--- its counts
-pub check-line : (table : List ℕ) (o : CheckResult) → Demand3 (loadedFrom table) o → o .line ≤ mostCount
-check-line table o d = by-table (loadedFrom table) refl d
-  where
-    by-table : (l : TableOutcome) → loadedFrom table ≡ l → Demand3 l o → o .line ≤ mostCount
-    by-table (malformed n) e d = omega (arith, d .line, line-bound table n e)
-    by-table (wellFormed t) e (inl a) = omega (arith, a .line)
-    by-table (wellFormed t) e (inr r) = omega (arith, r .line)
+-- what the check tells can be packed
+pub packable-check : (l : TableOutcome) (o : CheckResult) → Counted l → Demand3 l o → PackableCheck o
+packable-check (malformed n) o h d = record { line = omega (arith, d .line, h); canonical = witness-canonical (malformed n) o d }
+packable-check (wellFormed t) o h (inl a) = record { line = omega (arith, a .line); canonical = witness-canonical (wellFormed t) o (inl a) }
+packable-check (wellFormed t) o h (inr r) = record { line = omega (arith, r .line); canonical = witness-canonical (wellFormed t) o (inr r) }
 
 pub shown-size : (r : Record) (old new : List ℕ) (n : ℕ) → canonicalRecord r ≡ true → ShownText (recordText keys (view r)) old n new → n ≤ mostCount
 unfolding remaining

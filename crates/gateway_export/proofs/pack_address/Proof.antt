@@ -1,12 +1,12 @@
--- `gateway::exports::pack_address` meets its contract.
+-- `gateway_export::pack_address` meets its contract.
 -- Assumes nothing.
 use mathlib.Core.Path.{_∙_}
 use native.Mathlib.Omega.{arith}
 use Rattle.mapping.specs.Answers.{toldAddress}
-use Rattle.gateway.proofs.Laws.Exports.{number-small}
+use Rattle.gateway_export.proofs.Laws.Exports.{number-small}
 use borrow.Author.Needs.{needs}
-use Rattle.gateway.proofs.exports.pack_address.Statement.{statement}
-use Rattle.gateway.proofs.exports.pack_address.Tie as tie
+use Rattle.gateway_export.proofs.pack_address.Statement.{statement}
+use Rattle.gateway_export.proofs.pack_address.Tie as tie
 
 pack-requires : tie.Need-pack-requires
 pack-requires c κs =
