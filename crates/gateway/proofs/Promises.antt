@@ -608,6 +608,7 @@ limits =
       coded-form = refl;
       line = (refl, refl);
       table = (refl, refl, refl, refl);
+      entries = refl;
       attributes = refl;
       counts = (refl, refl, refl);
       answer = refl;

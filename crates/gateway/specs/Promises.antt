@@ -33,6 +33,7 @@ use Rattle.mailaddr.specs.Tail.{shared, sharedTail, tailPlace}
 use Rattle.table.specs.FirstBad.{FirstBad, NoneBad}
 use Rattle.table.specs.Lines.{Line, TableOutcome, loadedFrom, longestGatewayDomain, longestRowDomain, longestTable, malformed, mostRows, tableLines, wellFormed}
 use Rattle.table.specs.Table.{Table}
+use Rattle.rowlist.specs.Entries.{mostEntries}
 use Rattle.rowlist.specs.declared.RowEntry.{RowEntry}
 use Rattle.rowlist_load.specs.Listed.{entryLine, fieldsOf, linesText, listedFrom}
 use Rattle.mapping.specs.Answers.{isGood, readWell}
@@ -200,7 +201,7 @@ pub record ListRules (s : List ℕ) (rows : List RowEntry) : Type 0 where
   pub well-formed : (t : Table) → listedFrom s rows ≡ wellFormed t → (rows ≡ [] → ⊥) × NoneBad (map (entryLine s) rows)
   pub formed-well : (rows ≡ [] → ⊥) → NoneBad (map (entryLine s) rows) → (t : Table) × (listedFrom s rows ≡ wellFormed t)
   -- entries past the 514th change nothing, since that is bad: the gateway's entry and 512 rows are all that there may be
-  pub front : listedFrom s (take 514 rows) ≡ listedFrom s rows
+  pub front : listedFrom s (take mostEntries rows) ≡ listedFrom s rows
   -- a list whose entries have the fields of a text's lines gives the same table, or the same number
   pub same : (table : List ℕ) → length table ≤ longestTable → all (λ (l : Line). l .ended) (map (entryLine s) rows) ≡ true
       → all (λ (l : Line). l .ended) (tableLines table) ≡ true → map fieldsOf (map (entryLine s) rows) ≡ map fieldsOf (tableLines table)
@@ -386,6 +387,7 @@ pub record Limits : Type 0 where
   pub coded-form : longestCoded ≡ 128
   pub line : (longestLine ≡ 4096) × (longestRouted ≡ 4096)
   pub table : (longestTable ≡ 65536) × (mostRows ≡ 512) × (longestGatewayDomain ≡ 253) × (longestRowDomain ≡ 40)
+  pub entries : mostEntries ≡ 514
   pub attributes : bounds ≡ 3 ∷ 16 ∷ 16 ∷ 64 ∷ 40 ∷ 16 ∷ 5 ∷ 3 ∷ 32 ∷ 8 ∷ 128 ∷ 2 ∷ []
   pub counts : (singleCount ≡ 8) × (levelCount ≡ 8) × (most ≡ 4)
   pub answer : answerRoom ≡ 2563

@@ -5,6 +5,7 @@ use mathlib.Core.List.{List, [], _∷_, map}
 use Prim.Native.Nat.{ℕ, zero, suc, _+_, _≤_}
 use native.Mathlib.Omega.{arith}
 use lib.ListN.{length, take}
+use Rattle.rowlist.specs.Entries.{mostEntries}
 use Rattle.rowlist.specs.declared.RowEntry.{RowEntry}
 use Rattle.table.specs.Lines.{Line, readLines}
 use Rattle.rowlist_load.specs.Listed.{entryLine, listedFrom}
@@ -19,11 +20,11 @@ lines-few f zero es = omega arith
 lines-few f (suc n) [] = omega arith
 lines-few f (suc n) (e ∷ es) = omega (arith, lines-few f n es)
 
-front-counted : (s : List ℕ) (es : List RowEntry) → Counted (listedFrom s (take 514 es))
+front-counted : (s : List ℕ) (es : List RowEntry) → Counted (listedFrom s (take mostEntries es))
 front-counted s es =
-    let ls : List Line = map (entryLine s) (take 514 es) in
-    subst Counted (sym (listed-lines s (take 514 es)))
-    (numbered-more (2 + length ls) mostCount (readLines ls) (omega (arith, lines-few (entryLine s) 514 es)) (lines-number ls))
+    let ls : List Line = map (entryLine s) (take mostEntries es) in
+    subst Counted (sym (listed-lines s (take mostEntries es)))
+    (numbered-more (2 + length ls) mostCount (readLines ls) (omega (arith, lines-few (entryLine s) mostEntries es)) (lines-number ls))
 
 pub listed-counted : (s : List ℕ) (es : List RowEntry) → Counted (listedFrom s es)
 listed-counted s es = subst Counted (listed-front s es) (front-counted s es)

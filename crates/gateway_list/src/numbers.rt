@@ -14,7 +14,7 @@ use table::rows::ROWS_SIZE;
 ghost use mathlib.Core.Path.{_≡_};
 ghost use Prim.Native.Nat.{_*_, _≤_};
 ghost use lib.ListN.{length};
-ghost use Rattle.rowlist.specs.Entries.{entriesOf};
+ghost use Rattle.rowlist.specs.Entries.{entriesOf, entrySize};
 ghost use Rattle.rowlist_load.specs.Listed.{listedFrom};
 ghost use Rattle.mapping.specs.Answers.{toldAddress, toldRecord};
 ghost use Rattle.mapping.specs.ToAddress.{toAddressBy};
@@ -24,7 +24,7 @@ ghost use Rattle.router.specs.Run.{Routing};
 
 // An address to a record.
 pub fn numbers_to_record(text: &[u8], numbers: &[usize], n: usize, address: &[u8]) -> ToRecord
-    requires { ⌜ n * 5 ≤ length (now numbers) ⌝ }
+    requires { ⌜ n * entrySize ≤ length (now numbers) ⌝ }
     ensures { λ r. ⌜ toldRecord r ≡ toRecordBy (listedFrom (now (text .entry)) (entriesOf (now (numbers .entry)) n)) (now (address .entry)) ⌝ }
 {
     let mut to_path = [0usize; ROWS_SIZE];
@@ -41,7 +41,7 @@ pub fn numbers_to_address(
     rec: Record,
     out: &mut [u8],
 ) -> ToAddress
-    requires { ⌜ n * 5 ≤ length (now numbers) ⌝ }
+    requires { ⌜ n * entrySize ≤ length (now numbers) ⌝ }
     ensures { λ r. ⌜ toldAddress r (now (out .exit)) ≡ toAddressBy (listedFrom (now (text .entry)) (entriesOf (now (numbers .entry)) n)) rec (now (out .entry)) ⌝ }
 {
     let mut to_path = [0usize; ROWS_SIZE];
@@ -52,7 +52,7 @@ pub fn numbers_to_address(
 
 // The check.
 pub fn numbers_check(text: &[u8], numbers: &[usize], n: usize) -> Checked
-    requires { ⌜ n * 5 ≤ length (now numbers) ⌝ }
+    requires { ⌜ n * entrySize ≤ length (now numbers) ⌝ }
     ensures { λ r. ⌜ Demand3 (listedFrom (now (text .entry)) (entriesOf (now (numbers .entry)) n)) (toldCheck r) ⌝ }
 {
     let mut to_path = [0usize; ROWS_SIZE];
@@ -71,7 +71,7 @@ pub fn numbers_route(
     last: bool,
     out: &mut [u8],
 ) -> Routed
-    requires { ⌜ n * 5 ≤ length (now numbers) ⌝ }
+    requires { ⌜ n * entrySize ≤ length (now numbers) ⌝ }
     ensures { λ r. ⌜ Routing (listedFrom (now (text .entry)) (entriesOf (now (numbers .entry)) n)) over (now (input .entry)) last
         (now (out .entry)) r (now (out .exit)) ⌝ }
 {

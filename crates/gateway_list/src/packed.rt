@@ -10,7 +10,7 @@ use gateway_export::pack_record;
 use gateway_text::read::read_record;
 ghost use Prim.Native.Nat.{_*_, _≤_};
 ghost use lib.ListN.{length};
-ghost use Rattle.rowlist.specs.Entries.{entriesOf};
+ghost use Rattle.rowlist.specs.Entries.{entriesOf, entrySize};
 ghost use Rattle.rowlist_load.specs.Listed.{listedFrom};
 ghost use Rattle.mapping.specs.ToRecord.{toRecordBy};
 ghost use Rattle.router.specs.Run.{Routing};
@@ -24,7 +24,7 @@ pub fn packed_to_record(
     address: &[u8],
     out: &mut [u8],
 ) -> usize
-    requires { ⌜ n * 5 ≤ length (now numbers) ⌝ }
+    requires { ⌜ n * entrySize ≤ length (now numbers) ⌝ }
     ensures { λ r. ⌜ Exported (textResult (toRecordBy (listedFrom (now (text .entry)) (entriesOf (now (numbers .entry)) n)) (now (address .entry)))
         (now (out .entry))) r (now (out .exit)) ⌝ }
 {
@@ -40,7 +40,7 @@ pub fn packed_to_address(
     record_text: &[u8],
     out: &mut [u8],
 ) -> usize
-    requires { ⌜ n * 5 ≤ length (now numbers) ⌝ }
+    requires { ⌜ n * entrySize ≤ length (now numbers) ⌝ }
     ensures { λ r. ⌜ Exported (textToAddressBy (listedFrom (now (text .entry)) (entriesOf (now (numbers .entry)) n)) (now («record_text» .entry))
         (now (out .entry))) r (now (out .exit)) ⌝ }
 {
@@ -51,7 +51,7 @@ pub fn packed_to_address(
 
 // The check, and a witness's text in `out`, if it fits.
 pub fn packed_check(text: &[u8], numbers: &[usize], n: usize, out: &mut [u8]) -> usize
-    requires { ⌜ n * 5 ≤ length (now numbers) ⌝ }
+    requires { ⌜ n * entrySize ≤ length (now numbers) ⌝ }
     ensures { λ r. ⌜ ExportedCheck (listedFrom (now (text .entry)) (entriesOf (now (numbers .entry)) n)) (now (out .entry)) r (now (out .exit)) ⌝ }
 {
     pack_check(numbers_check(text, numbers, n), out)
@@ -69,7 +69,7 @@ pub fn packed_route(
     taken: &mut usize,
     written: &mut usize,
 ) -> bool
-    requires { ⌜ n * 5 ≤ length (now numbers) ⌝ }
+    requires { ⌜ n * entrySize ≤ length (now numbers) ⌝ }
     ensures { λ r. ⌜ Routing (listedFrom (now (text .entry)) (entriesOf (now (numbers .entry)) n)) over (now (input .entry)) last
         (now (out .entry)) (record { over = r; taken = now (taken .exit); written = now (written .exit) }) (now (out .exit)) ⌝ }
 {

@@ -7,6 +7,13 @@ use mathlib.Core.Bool.{cond}
 use lib.Dec.{ltb}
 use Rattle.rowlist.specs.declared.RowEntry.{RowEntry}
 
+-- how many numbers an entry is, and how many entries are laid out: the gateway's, 512 rows, and one that is bad whatever it holds
+abbrev pub entrySize : ℕ
+entrySize = 5
+
+abbrev pub mostEntries : ℕ
+mostEntries = 514
+
 abbrev pub noEntry : RowEntry
 noEntry = record { kind = 0; domain = 0; «domain_len» = 0; path = 0; «path_len» = 0 }
 

@@ -3,7 +3,7 @@ ghost use mathlib.Core.Path.{_≡_};
 ghost use mathlib.Core.List.{List};
 ghost use Prim.Native.Nat.{_<_, _≤_, _/_, _*_, _+_};
 ghost use lib.ListN.{length, getD, take};
-ghost use Rattle.rowlist.specs.Entries.{noEntry, entriesOf, laid, lesser};
+ghost use Rattle.rowlist.specs.Entries.{entriesOf, entrySize, laid, lesser, noEntry};
 
 // An entry of a list of rows.
 #[repr(C)]
@@ -15,7 +15,10 @@ pub struct RowEntry {
     pub path_len: usize,
 }
 
-// How many numbers are laid out: five for each of at most 514 entries.
+// How many numbers an entry is laid out as.
+pub const ENTRY_SIZE: usize = 5;
+
+// Room for the numbers of the gateway's entry, 512 rows, and one more, which is bad whatever it holds.
 pub const LIST_ROOM: usize = 2570;
 
 // Entry i, taken out of a lent list.
@@ -28,9 +31,9 @@ pub fn entry_at(rows: &[RowEntry], i: usize) -> RowEntry
 
 // How many of so many entries there is room for, in so many numbers.
 pub fn how_many(entries: usize, room: usize) -> usize
-    ensures { λ r. ⌜ r ≡ lesser entries (room / 5) ⌝ }
+    ensures { λ r. ⌜ r ≡ lesser entries (room / entrySize) ⌝ }
 {
-    let most = room / 5;
+    let most = room / ENTRY_SIZE;
     if most < entries {
         return most;
     }
@@ -39,10 +42,10 @@ pub fn how_many(entries: usize, room: usize) -> usize
 
 // Entry i is laid out: its five numbers are stored.
 pub fn put_entry(numbers: &mut [usize], i: usize, entry: RowEntry)
-    requires { ⌜ i * 5 + 4 < length (now numbers) ⌝ }
-    ensures { λ _. ⌜ now (numbers .exit) ≡ laid (now (numbers .entry)) (i * 5) entry ⌝ }
+    requires { ⌜ i * entrySize + 4 < length (now numbers) ⌝ }
+    ensures { λ _. ⌜ now (numbers .exit) ≡ laid (now (numbers .entry)) (i * entrySize) entry ⌝ }
 {
-    let k = i * 5;
+    let k = i * ENTRY_SIZE;
     numbers[k] = entry.kind;
     numbers[k + 1] = entry.domain;
     numbers[k + 2] = entry.domain_len;
@@ -52,7 +55,7 @@ pub fn put_entry(numbers: &mut [usize], i: usize, entry: RowEntry)
 
 // The entries of a list, five numbers each, as many as there is room for; how many.
 pub fn spread(rows: &[RowEntry], numbers: &mut [usize]) -> usize
-    ensures { λ r. ⌜ (entriesOf (now (numbers .exit)) r ≡ take r (now (rows .entry))) × ((r ≡ lesser (length (now (rows .entry))) (length (now (numbers .entry)) / 5)) × (length (now (numbers .exit)) ≡ length (now (numbers .entry)))) ⌝ }
+    ensures { λ r. ⌜ (entriesOf (now (numbers .exit)) r ≡ take r (now (rows .entry))) × ((r ≡ lesser (length (now (rows .entry))) (length (now (numbers .entry)) / entrySize)) × (length (now (numbers .exit)) ≡ length (now (numbers .entry)))) ⌝ }
 {
     let n = how_many(rows.len(), numbers.len());
     let mut i = 0;

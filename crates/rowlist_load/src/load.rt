@@ -1,5 +1,6 @@
 // A list of rows read: its rows, in order, or the number of its first bad entry.
 use mailaddr::domain::is_domain;
+use rowlist::ENTRY_SIZE;
 use rowlist::RowEntry;
 use table::line::LONGEST_GATEWAY_DOMAIN;
 use table::line::LONGEST_ROW_DOMAIN;
@@ -17,14 +18,11 @@ ghost use Prim.Native.Nat.{_*_, _+_, _-_, _<_, _≤_};
 ghost use lib.Dec.{leb};
 ghost use lib.ListN.{length};
 ghost use mathlib.Core.List.{map};
-ghost use Rattle.rowlist.specs.Entries.{entriesFrom, entriesOf, entryAt};
+ghost use Rattle.rowlist.specs.Entries.{entriesFrom, entriesOf, entryAt, entrySize};
 ghost use Rattle.table.specs.Lines.{longestGatewayDomain, readRows};
 ghost use Rattle.table.specs.Rows.{RowInside, bareTable, rowAt, rowsSize, tableAt};
 ghost use Rattle.table_load.specs.Load.{Adding, Kept, Loading};
 ghost use Rattle.rowlist_load.specs.Listed.{EntryReading, entryLine, listedFrom};
-
-// An entry is this many numbers: its kind, and where its domain and its path start and how long they are.
-const ENTRY_SIZE: usize = 5;
 
 // The kinds of entries: the gateway's, and rows that go one way and the other. They are the tags of a table text's lines.
 const GATEWAY_KIND: usize = 71;
@@ -46,8 +44,8 @@ fn is_inside(at: usize, len: usize, size: usize) -> bool
 
 // Entry i of the numbers.
 fn entry_of(numbers: &[usize], i: usize) -> RowEntry
-    requires { ⌜ i * 5 + 5 ≤ length (now numbers) ⌝ }
-    ensures { λ r. ⌜ r ≡ entryAt (now (numbers .entry)) (i * 5) ⌝ }
+    requires { ⌜ i * entrySize + entrySize ≤ length (now numbers) ⌝ }
+    ensures { λ r. ⌜ r ≡ entryAt (now (numbers .entry)) (i * entrySize) ⌝ }
 {
     let at = i * ENTRY_SIZE;
     RowEntry {
@@ -135,7 +133,7 @@ fn load_rest(
     gateway: Row,
 ) -> TableRead
     requires { ⌜ 1 ≤ n ⌝ }
-    requires { ⌜ n * 5 ≤ length (now numbers) ⌝ }
+    requires { ⌜ n * entrySize ≤ length (now numbers) ⌝ }
     requires { ⌜ length (now «to_path») ≡ rowsSize ⌝ }
     requires { ⌜ length (now «to_domain») ≡ rowsSize ⌝ }
     requires { ⌜ RowInside (now text) gateway ⌝ }
@@ -171,7 +169,7 @@ pub fn load_entries(
     to_path: &mut [usize],
     to_domain: &mut [usize],
 ) -> TableRead
-    requires { ⌜ n * 5 ≤ length (now numbers) ⌝ }
+    requires { ⌜ n * entrySize ≤ length (now numbers) ⌝ }
     requires { ⌜ length (now «to_path») ≡ rowsSize ⌝ }
     requires { ⌜ length (now «to_domain») ≡ rowsSize ⌝ }
     ensures { λ r. ⌜ Loading (now (text .entry)) (listedFrom (now (text .entry)) (entriesOf (now (numbers .entry)) n)) r

@@ -14,6 +14,7 @@ use Rattle.chars.specs.Parts.{join, split}
 use Rattle.chars.proofs.Laws.Lists.{and-left, and-right, by-test, or-left, or-right, true-not-false}
 use Rattle.chars.proofs.Laws.Parts.{join-split}
 use Rattle.chars.proofs.Laws.Seq.{map-take}
+use Rattle.rowlist.specs.Entries.{mostEntries}
 use Rattle.rowlist.specs.declared.RowEntry.{RowEntry}
 use Rattle.table.specs.Table.{Table, Token}
 use Rattle.table.specs.Lines as lines
@@ -79,7 +80,7 @@ rows-front (suc m) n t (l ∷ ls) q h =
     (λ b. rw b (rows-front m (suc n) (withRow t (split 9 (l .text))) ls
     (omega (arith, with-count t (split 9 (l .text)))) (omega (arith, good-few t l b))))
 
-lines-front : (ls : List Line) → readLines (take 514 ls) ≡ readLines ls
+lines-front : (ls : List Line) → readLines (take mostEntries ls) ≡ readLines ls
 unfolding readLines gatewayTable
 lines-front [] = refl
 lines-front (l ∷ ls) =
@@ -87,9 +88,9 @@ lines-front (l ∷ ls) =
     (λ b. rw b)
     (λ b. rw b (rows-front 513 2 (gatewayTable (split 9 (l .text))) ls (omega arith) (omega arith)))
 
-pub listed-front : (s : List ℕ) (es : List RowEntry) → listedFrom s (take 514 es) ≡ listedFrom s es
+pub listed-front : (s : List ℕ) (es : List RowEntry) → listedFrom s (take mostEntries es) ≡ listedFrom s es
 unfolding listedFrom
-listed-front s es = ap readLines (map-take (entryLine s) 514 es) ∙ lines-front (map (entryLine s) es)
+listed-front s es = ap readLines (map-take (entryLine s) mostEntries es) ∙ lines-front (map (entryLine s) es)
 
 -- ---- the same table as a text's
 
