@@ -8,6 +8,7 @@ use rowlist::how_many;
 use rowlist::put_entry;
 ghost use Prim.Native.Nat.{_*_, _≤_};
 ghost use lib.ListN.{length};
+ghost use Rattle.rowlist.specs.Entries.{entrySize};
 
 // How many entries were laid out, and where the line behind them starts.
 pub(crate) struct Entries {
@@ -64,8 +65,8 @@ fn entry(s: &[u8]) -> RowEntry {
 // Lays an entry out behind n of them, and returns how many there are then. One that there is no room for is dropped, as `rowlist::spread`
 // drops it.
 fn add_entry(numbers: &mut [usize], n: usize, entry: RowEntry) -> usize
-    requires { ⌜ n * 5 ≤ length (now numbers) ⌝ }
-    ensures { λ r. ⌜ r * 5 ≤ length (now (numbers .exit)) ⌝ }
+    requires { ⌜ n * entrySize ≤ length (now numbers) ⌝ }
+    ensures { λ r. ⌜ r * entrySize ≤ length (now (numbers .exit)) ⌝ }
 {
     let next = how_many(n + 1, numbers.len());
     if n < next {
@@ -76,7 +77,7 @@ fn add_entry(numbers: &mut [usize], n: usize, entry: RowEntry) -> usize
 
 // Lays out the entries from `at` on, up to the line that loads them.
 pub(crate) fn read_entries(s: &[u8], at: usize, numbers: &mut [usize]) -> Entries
-    ensures { λ r. ⌜ (at ≤ r .next) × (r .count * 5 ≤ length (now (numbers .exit))) ⌝ }
+    ensures { λ r. ⌜ (at ≤ r .next) × (r .count * entrySize ≤ length (now (numbers .exit))) ⌝ }
 {
     let mut n = 0;
     let mut from = at;

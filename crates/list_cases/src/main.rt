@@ -27,6 +27,7 @@ use table::load::TableRead;
 use table::rows::ROWS_SIZE;
 ghost use Prim.Native.Nat.{_*_, _<_, _≤_};
 ghost use lib.ListN.{length};
+ghost use Rattle.rowlist.specs.Entries.{entrySize};
 
 // Standard input, at most; a list's text, which may be longer than a table's.
 const ROOM: usize = 2097152;
@@ -38,7 +39,7 @@ const BEHIND: u8 = b'a';
 
 // Loads a list of n entries, runs the look-ups from `at` on, and returns where the next list's text stands.
 fn run_loaded(s: &[u8], at: usize, text: &[u8], numbers: &[usize], n: usize) -> usize
-    requires { ⌜ n * 5 ≤ length (now numbers) ⌝ }
+    requires { ⌜ n * entrySize ≤ length (now numbers) ⌝ }
     ensures { λ r. ⌜ at ≤ r ⌝ }
 {
     let mut to_path = [0usize; ROWS_SIZE];
