@@ -55,7 +55,9 @@ pub fn put_entry(numbers: &mut [usize], i: usize, entry: RowEntry)
 
 // The entries of a list, five numbers each, as many as there is room for; how many.
 pub fn spread(rows: &[RowEntry], numbers: &mut [usize]) -> usize
-    ensures { λ r. ⌜ (entriesOf (now (numbers .exit)) r ≡ take r (now (rows .entry))) × ((r ≡ lesser (length (now (rows .entry))) (length (now (numbers .entry)) / entrySize)) × (length (now (numbers .exit)) ≡ length (now (numbers .entry)))) ⌝ }
+    ensures { λ r. ⌜ (entriesOf (now (numbers .exit)) r ≡ take r (now (rows .entry)))
+        × ((r ≡ lesser (length (now (rows .entry))) (length (now (numbers .entry)) / entrySize))
+        × (length (now (numbers .exit)) ≡ length (now (numbers .entry)))) ⌝ }
 {
     let n = how_many(rows.len(), numbers.len());
     let mut i = 0;
