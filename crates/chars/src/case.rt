@@ -18,6 +18,9 @@ pub fn fold_case(b: u8) -> u8
 pub fn same_byte(a: u8, b: u8) -> bool
     ensures { λ r. ⌜ r ≡ sameByte a b ⌝ }
 {
+    if a == b {
+        return true;
+    }
     fold_case(a) == fold_case(b)
 }
 

@@ -24,16 +24,13 @@ pub enum Class {
 pub fn is_letter(b: u8) -> bool
     ensures { λ r. ⌜ r ≡ isLetter b ⌝ }
 {
-    if b < b'A' {
-        return false;
+    if b'a' <= b {
+        return b <= b'z';
     }
-    if b <= b'Z' {
-        return true;
+    if b'A' <= b {
+        return b <= b'Z';
     }
-    if b < b'a' {
-        return false;
-    }
-    b <= b'z'
+    false
 }
 
 pub fn is_digit(b: u8) -> bool
@@ -93,56 +90,50 @@ pub fn is_quotable(b: u8) -> bool
     is_printable(b)
 }
 
-// RFC 822's atom characters: bytes 33 to 126 without `( ) < > @ , ; : \ " . [ ]`.
+// RFC 822's atom characters: bytes 33 to 126 without `( ) < > @ , ; : \ " . [ ]`. Here too the letters come first.
 pub fn is_atom_char(b: u8) -> bool
     ensures { λ r. ⌜ r ≡ isAtomChar b ⌝ }
 {
-    if b < b'#' {
-        return b == b'!';
+    if b'^' <= b {
+        return b <= b'~';
     }
-    if b <= b'\'' {
-        return true;
+    if b'A' <= b {
+        return b <= b'Z';
     }
-    if b < b'*' {
-        return false;
+    if b'?' <= b {
+        return b == b'?';
     }
-    if b <= b'+' {
-        return true;
+    if b'=' <= b {
+        return b == b'=';
     }
-    if b < b'/' {
+    if b'/' <= b {
+        return b <= b'9';
+    }
+    if b'-' <= b {
         return b == b'-';
     }
-    if b <= b'9' {
-        return true;
+    if b'*' <= b {
+        return b <= b'+';
     }
-    if b == b'=' {
-        return true;
+    if b'#' <= b {
+        return b <= b'\'';
     }
-    if b == b'?' {
-        return true;
-    }
-    if b < b'A' {
-        return false;
-    }
-    if b <= b'Z' {
-        return true;
-    }
-    if b < b'^' {
-        return false;
-    }
-    b <= b'~'
+    b == b'!'
 }
 
 pub fn is_label_char(b: u8) -> bool
     ensures { λ r. ⌜ r ≡ isLabelChar b ⌝ }
 {
-    if b == b'-' {
-        return true;
+    if b'a' <= b {
+        return b <= b'z';
     }
-    if b < b'A' {
-        return is_digit(b);
+    if b'A' <= b {
+        return b <= b'Z';
     }
-    is_letter(b)
+    if b'0' <= b {
+        return b <= b'9';
+    }
+    b == b'-'
 }
 
 pub fn is_in(class: Class, b: u8) -> bool
