@@ -1,13 +1,13 @@
 -- Laws of text written into a buffer: two writes in a row are one, a write keeps the length, and what the buffer then holds.
 -- Assumes nothing.
 use mathlib.Core.Path.{_≡_, refl, sym, ap, _∙_}
-use Prim.Native.Nat.{ℕ, suc, _+_, _≤_, _<_}
+use Prim.Native.Nat.{ℕ, zero, suc, _+_, _-_, _≤_, _<_}
 use native.Mathlib.Nat.{add-zero, add-suc, suc-add, zero-add}
 use native.Mathlib.Numerals.{add-one}
 use native.Mathlib.Omega.{arith}
-use mathlib.Core.List.{List, [], _∷_, _++_}
-use lib.ListN.{length, take, drop, set, getD, length-append, length-drop, length-take}
-use lib.Seq.{sets, sets-eq, set-out, length-sets, take-append-seam, take-at, length-take-le, drop-append-seam, drop-cons, getD-take}
+use mathlib.Core.List.{List, [], _∷_, _++_, append-assoc}
+use lib.ListN.{length, take, drop, set, getD, length-append, length-drop, length-take, take-append-drop}
+use lib.Seq.{sets, sets-eq, set-comm, set-out, set-set, drop-append-le, drop-drop, take-add, length-sets, take-append-seam, take-at, length-take-le, drop-append-seam, drop-cons, getD-take}
 use Rattle.chars.specs.Write.{Wrote, front}
 
 -- two runs of stores, one after the other
@@ -60,6 +60,32 @@ wrote-then {o} {m} {n} {s} {t} {i} {j} {k} a b = record {
 pub wrote-length : {o n s : List ℕ} {i j : ℕ} → Wrote o i s j n → length n ≡ length o
 wrote-length {o} {n} {s} {i} w = ap length (w .holds) ∙ length-sets o i s
 
+-- a store in front of a run of stores can as well come before it
+set-sets : (l : List ℕ) (i : ℕ) (s : List ℕ) (j y : ℕ) → j < i → set (sets l i s) j y ≡ sets (set l j y) i s
+set-sets l i [] j y h = refl
+set-sets l i (x ∷ s) j y h =
+    set-sets (set l i x) (suc i) s j y (omega arith)
+    ∙ ap (λ (m : List ℕ). sets m (suc i) s) (set-comm l i j x y (λ e. absurd (omega arith)))
+
+-- a run of stores over another one, which begins a places further on and ends no later
+sets-over : (l : List ℕ) (i a : ℕ) (s t : List ℕ) → a + length s ≤ length t → sets (sets l (i + a) s) i t ≡ sets l i t
+sets-over l i a [] t h = refl
+sets-over l i a (x ∷ s) [] h = absurd (omega arith)
+sets-over l i zero (x ∷ s) (y ∷ t) h =
+    ap (λ (p : ℕ). sets (sets l p (x ∷ s)) i (y ∷ t)) (add-zero i)
+    ∙ ap (λ (k : List ℕ). sets k (suc i) t) (set-sets (set l i x) (suc i) s i y (omega arith) ∙ ap (λ (k : List ℕ). sets k (suc i) s) (set-set l i x y))
+    ∙ sym (ap (λ (p : ℕ). sets (sets (set l i y) p s) (suc i) t) (add-zero (suc i)))
+    ∙ sets-over (set l i y) (suc i) zero s t (omega arith)
+sets-over l i (suc a) (x ∷ s) (y ∷ t) h =
+    ap (λ (k : List ℕ). sets k (suc i) t) (set-sets l (i + suc a) (x ∷ s) i y (omega arith) ∙ ap (λ (k : ℕ). sets (set l i y) k (x ∷ s)) (add-suc i a ∙ sym (suc-add i a)))
+    ∙ sets-over (set l i y) (suc i) a (x ∷ s) t (omega arith)
+
+-- a text over one that lies within it: that one is gone
+pub wrote-over : {o m n s t : List ℕ} {p i j k : ℕ} → Wrote o p s j m → Wrote m i t k n → i ≤ p → p + length s ≤ i + length t → Wrote o i t k n
+wrote-over {o} {m} {n} {s} {t} {p} {i} u v h g =
+    let e : p ≡ i + (p - i) = omega arith in
+    record { moved = v .moved; holds = v .holds ∙ ap (λ (l : List ℕ). sets l i t) (u .holds ∙ ap (λ (q : ℕ). sets o q s) e) ∙ sets-over o i (p - i) s t (omega arith) }
+
 -- with room: before the text and after it the buffer is as it was
 pub wrote-place : {o n t : List ℕ} {i j : ℕ} → Wrote o i t j n → i + length t ≤ length o → n ≡ take i o ++ t ++ drop (i + length t) o
 wrote-place {o} {n} {t} {i} w h = w .holds ∙ sets-eq t o i h
@@ -73,6 +99,34 @@ pub wrote-take : {o n t : List ℕ} {i j : ℕ} → Wrote o i t j n → i + leng
 wrote-take {o} {n} {t} {i} {j} w h =
     let e : length (take i o ++ t) ≡ j = simp length-append (omega (arith, length-take-le i o (omega arith), w .moved)) in
     ap (take j) (wrote-place w h) ∙ take-at (take i o ++ t) (drop (i + length t) o) j e
+
+-- a text at the front of a part, the k bytes from a on, is at a in the whole
+pub wrote-within : (a k : ℕ) {o n t : List ℕ} {j : ℕ} → Wrote (take k (drop a o)) 0 t j n → length t ≤ length (take k (drop a o)) → a ≤ length o
+    → Wrote o a t (a + j) (take a o ++ (n ++ drop k (drop a o)))
+unfolding front
+wrote-within a k {o} {n} {t} {j} w h in-o =
+    let d = drop a o in
+    let fits : a + length t ≤ length o = omega (arith, length-take k d, length-drop a o) in
+    let rest : drop (length t) (take k d) ++ drop k d ≡ drop (a + length t) o =
+    sym (drop-append-le (length t) (take k d) (drop k d) h) ∙ ap (drop (length t)) (take-append-drop k d) ∙ drop-drop (length t) a o in
+    record {
+      moved = omega (arith, w .moved);
+      holds =
+          ap (λ (m : List ℕ). take a o ++ (m ++ drop k d)) (wrote-front w h)
+          ∙ ap (λ (m : List ℕ). take a o ++ m) (append-assoc t (drop (length t) (take k d)) (drop k d) ∙ ap (λ (m : List ℕ). t ++ m) rest)
+          ∙ sym (append-assoc (take a o) t (drop (a + length t) o)) ∙ sym (sets-eq t o a fits);
+    }
+
+-- what stands in a buffer is written there
+pub wrote-same : {o : List ℕ} (i n : ℕ) → i + n ≤ length o → Wrote o i (take n (drop i o)) (i + n) o
+wrote-same {o} i n h =
+    let l : length (take n (drop i o)) ≡ n = length-take-le n (drop i o) (omega (arith, length-drop i o)) in
+    record {
+      moved = omega (arith, l);
+      holds =
+          sym (sets-eq (take n (drop i o)) o i (omega (arith, l)) ∙ ap (λ (k : ℕ). take i o ++ take n (drop i o) ++ drop (i + k) o) l
+          ∙ ap (λ (m : List ℕ). m ++ drop (i + n) o) (sym (take-add i n o)) ∙ take-append-drop (i + n) o);
+    }
 
 pub length-front : (t o : List ℕ) → length t ≤ length o → length (front t o) ≡ length o
 unfolding front
