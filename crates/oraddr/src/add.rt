@@ -13,10 +13,7 @@ use crate::bounds::PRMD;
 use crate::bounds::S;
 use crate::bounds::is_value;
 use crate::bounds::keeps_rule;
-use crate::record::Dds;
 use crate::record::Record;
-use crate::record::Singles;
-use crate::record::Units;
 use crate::value::DdType;
 use crate::value::DdValue;
 use crate::value::DomainDefined;
@@ -69,45 +66,9 @@ pub fn place(a: Attribute) -> usize
     }
 }
 
-impl Singles {
-    fn with(mut self, k: usize, value: &[u8]) -> Singles
-        requires { ⌜ k < singleCount ⌝ }
-        requires { ⌜ length (now value) ≤ boundOf O-BOUND ⌝ }
-        ensures { λ r. ⌜ r ≡ setSingle self k (now (value .entry)) ⌝ }
-    {
-        self.values[k] = Value::of(value);
-        self
-    }
-}
-
-impl Units {
-    fn with(mut self, name: &[u8]) -> Units
-        requires { ⌜ self .count < most ⌝ }
-        requires { ⌜ length (now name) ≤ boundOf OU-BOUND ⌝ }
-        ensures { λ r. ⌜ r ≡ pushUnit self (now (name .entry)) ⌝ }
-    {
-        let count = self.count;
-        self.names[count] = OrgUnit::of(name);
-        self.count = count + 1;
-        self
-    }
-}
-
-impl Dds {
-    fn with(mut self, item: DomainDefined) -> Dds
-        requires { ⌜ self .count < most ⌝ }
-        ensures { λ r. ⌜ r ≡ pushDd self item ⌝ }
-    {
-        let count = self.count;
-        self.items[count] = item;
-        self.count = count + 1;
-        self
-    }
-}
-
 impl Record {
     // Adds the attribute with the number k, which a record has once.
-    pub fn with_single(mut self, k: usize, value: &[u8]) -> Addition
+    pub fn with_single(self, k: usize, value: &[u8]) -> Addition
         requires { ⌜ k < singleCount ⌝ }
         ensures { λ r. ⌜ told r ≡ addSingle self k (now (value .entry)) ⌝ }
     {
@@ -117,17 +78,19 @@ impl Record {
                 answer: Added::Refused,
             };
         }
-        let singles = self.singles;
-        let there = singles.value(k);
+        let mut singles = self.singles;
+        let there = singles.values[k];
         if there.len != 0 {
             return Addition {
                 record: self, // there already
                 answer: Added::Refused,
             };
         }
-        self.singles = singles.with(k, value);
+        singles.values[k] = Value::of(value);
+        let units = self.units;
+        let dds = self.dds;
         Addition {
-            record: self,
+            record: Record { singles, units, dds },
             answer: Added::Done,
         }
     }
@@ -140,7 +103,7 @@ impl Record {
     }
 
     // Adds a unit behind those that are there: the most significant comes first.
-    pub fn with_unit(mut self, name: &[u8]) -> Addition
+    pub fn with_unit(self, name: &[u8]) -> Addition
         ensures { λ r. ⌜ told r ≡ addUnit self (now (name .entry)) ⌝ }
     {
         if !is_value(OU, name) {
@@ -149,22 +112,26 @@ impl Record {
                 answer: Added::Refused,
             };
         }
-        let units = self.units;
-        if MOST <= units.count {
+        let mut units = self.units;
+        let count = units.count;
+        if MOST <= count {
             return Addition {
                 record: self,
                 answer: Added::Refused, // a fifth unit
             };
         }
-        self.units = units.with(name);
+        units.names[count] = OrgUnit::of(name);
+        units.count = count + 1;
+        let singles = self.singles;
+        let dds = self.dds;
         Addition {
-            record: self,
+            record: Record { singles, units, dds },
             answer: Added::Done,
         }
     }
 
     // Adds a domain defined attribute behind those that are there.
-    pub fn with_dd(mut self, kind: &[u8], value: &[u8]) -> Addition
+    pub fn with_dd(self, kind: &[u8], value: &[u8]) -> Addition
         ensures { λ r. ⌜ told r ≡ addDd self (now (kind .entry)) (now (value .entry)) ⌝ }
     {
         if !is_value(DD_TYPE, kind) {
@@ -179,20 +146,23 @@ impl Record {
                 answer: Added::Refused,
             };
         }
-        let dds = self.dds;
-        if MOST <= dds.count {
+        let mut dds = self.dds;
+        let count = dds.count;
+        if MOST <= count {
             return Addition {
                 record: self,
                 answer: Added::Refused,
             };
         }
-        let item = DomainDefined {
+        dds.items[count] = DomainDefined {
             kind: DdType::of(kind),
             value: DdValue::of(value),
         };
-        self.dds = dds.with(item);
+        dds.count = count + 1;
+        let singles = self.singles;
+        let units = self.units;
         Addition {
-            record: self,
+            record: Record { singles, units, dds },
             answer: Added::Done,
         }
     }

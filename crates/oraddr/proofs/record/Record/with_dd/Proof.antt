@@ -5,7 +5,7 @@ use mathlib.Core.Bool.{true}
 use borrow.Author.Needs.{needs}
 use borrow.Author.Tests.{le-ltb, lt-ltb, not-false, not-true}
 use denote.Ref.{now}
-use Rattle.oraddr.specs.Add.{addDd, outcome}
+use Rattle.oraddr.specs.Add.{addDd, outcome, pushDd}
 use Rattle.oraddr.specs.Bounds.{DD-TYPE, DD-VALUE, isValue, most}
 use Rattle.oraddr.specs.Canonical.{isDd}
 use Rattle.oraddr.specs.View.{domainDefinedOf}
@@ -30,25 +30,25 @@ returns-2 c = rw (kind-kept (c .before .before), sym (c .before .is-value2 .ensu
 returns-3 : tie.Need-returns-3
 unfolding addDd isDd outcome
 returns-3 c =
-    let at = c .before .before .before in
+    let at = c .before .before in
     rw (kind-kept (at .before .before), value-kept at, le-ltb (at .before .before .before .before .before .before .args .self .dds .count) most (c .if3 .taken))
 
 of-requires : tie.Need-of-requires
 of-requires c κs =
-    let at = c .before .before .before .before .before in
+    let at = c .before .before .before .before in
     value-length DD-TYPE (now (at .before .before .before .before .args .kind)) (kind-kept at)
 
 of-requires-2 : tie.Need-of-requires-2
 of-requires-2 c κs =
-    let at = c .before .before .before .before in
+    let at = c .before .before .before in
     value-length DD-VALUE (now (at .before .before .before .before .before .before .args .value)) (value-kept at)
 
 returns-4 : tie.Need-returns-4
-unfolding addDd isDd domainDefinedOf outcome
+unfolding addDd isDd domainDefinedOf outcome pushDd
 returns-4 c =
     let at = c .before .before .before .before .before .before in
-    rw (c .with .ensures, c .before .of2 .ensures, c .before .before .of .ensures, kind-kept (at .before .before), value-kept at, lt-ltb (at .before .before .before .before .before .before .args .self .dds .count) most (c .before .before .before .if3 .left))
+    rw (c .before .before .of2 .ensures, c .before .before .before .of .ensures, kind-kept (at .before .before), value-kept at, lt-ltb (at .before .before .before .before .before .before .args .self .dds .count) most (c .before .before .before .before .if3 .left))
 
 pub with-dd-spec : {M : Type 1} → statement M
 with-dd-spec = tie.close (tie.spec (λ c κs. search needs) returns (λ c κs. search needs) returns-2 returns-3 of-requires of-requires-2
-    (λ c κs. search needs) returns-4)
+    (λ c. search needs) (λ c. search needs) (λ c. search needs) returns-4)

@@ -5,7 +5,7 @@ use mathlib.Core.Bool.{true}
 use borrow.Author.Needs.{needs}
 use borrow.Author.Tests.{le-ltb, lt-ltb, not-false, not-true}
 use denote.Ref.{now}
-use Rattle.oraddr.specs.Add.{addUnit, outcome}
+use Rattle.oraddr.specs.Add.{addUnit, outcome, pushUnit}
 use Rattle.oraddr.specs.Bounds.{OU, isValue, most}
 use Rattle.oraddr.specs.Canonical.{isUnit}
 use Rattle.oraddr.proofs.Laws.View.{value-length}
@@ -15,27 +15,25 @@ use Rattle.oraddr.proofs.record.Record.with_unit.Tie as tie
 kept : (c : tie.Else1) → isValue OU (now (c .before .before .before .args .name)) ≡ true
 kept c = sym (c .before .is-value .ensures) ∙ not-false (c .before .is-value .result) (c .if1 .left)
 
-is-value-requires : tie.Need-is-value-requires
-is-value-requires c κs = search needs
-
 returns : tie.Need-returns
 unfolding addUnit isUnit outcome
 returns c = rw (sym (c .before .is-value .ensures) ∙ not-true (c .before .is-value .result) (c .if1 .taken))
 
 returns-2 : tie.Need-returns-2
 unfolding addUnit isUnit outcome
-returns-2 c = rw (kept (c .before .before .before), le-ltb (c .before .before .before .before .before .before .args .self .units .count) most (c .if2 .taken))
+returns-2 c = rw (kept (c .before .before), le-ltb (c .before .before .before .before .before .args .self .units .count) most (c .if2 .taken))
 
-with-requires : tie.Need-with-requires
-with-requires c κs =
-    let at = c .before .before .before in
-    (c .if2 .left, value-length OU (now (at .before .before .before .args .name)) (kept at))
+of-requires : tie.Need-of-requires
+of-requires c κs =
+    let at = c .before .before in
+    value-length OU (now (at .before .before .before .args .name)) (kept at)
 
 returns-3 : tie.Need-returns-3
-unfolding addUnit isUnit outcome
+unfolding addUnit isUnit outcome pushUnit
 returns-3 c =
-    let at = c .before .before .before .before in
-    rw (c .with .ensures, kept at, lt-ltb (at .before .before .before .args .self .units .count) most (c .before .if2 .left))
+    let at = c .before .before .before .before .before in
+    rw (c .before .before .of .ensures, kept at, lt-ltb (at .before .before .before .args .self .units .count) most (c .before .before .before .if2 .left))
 
 pub with-unit-spec : {M : Type 1} → statement M
-with-unit-spec = tie.close (tie.spec is-value-requires returns returns-2 with-requires returns-3)
+with-unit-spec = tie.close (tie.spec (λ c κs. search needs) returns returns-2 of-requires (λ c. search needs) (λ c. search needs) (λ c. search needs)
+    returns-3)
