@@ -20,11 +20,9 @@ use crate::value::DomainDefined;
 use crate::value::OrgUnit;
 use crate::value::Value;
 ghost use mathlib.Core.Path.{_≡_};
-ghost use Prim.Native.Nat.{_<_, _≤_};
-ghost use lib.ListN.{length};
-ghost use Rattle.oraddr.specs.Add.{addDd, addSingle, addUnit, placeOf, pushDd, pushUnit, setSingle, told};
-ghost use Rattle.oraddr.specs.Bounds.{boundOf, most, singleCount};
-ghost use Rattle.oraddr.specs.Bounds.{O as O-BOUND, OU as OU-BOUND};
+ghost use Prim.Native.Nat.{_<_};
+ghost use Rattle.oraddr.specs.Add.{addDd, addSingle, addUnit, placeOf, told};
+ghost use Rattle.oraddr.specs.Bounds.{singleCount};
 
 // An attribute that a record has once.
 pub enum Attribute {
@@ -90,7 +88,11 @@ impl Record {
         let units = self.units;
         let dds = self.dds;
         Addition {
-            record: Record { singles, units, dds },
+            record: Record {
+                singles,
+                units,
+                dds,
+            },
             answer: Added::Done,
         }
     }
@@ -125,7 +127,11 @@ impl Record {
         let singles = self.singles;
         let dds = self.dds;
         Addition {
-            record: Record { singles, units, dds },
+            record: Record {
+                singles,
+                units,
+                dds,
+            },
             answer: Added::Done,
         }
     }
@@ -162,7 +168,11 @@ impl Record {
         let singles = self.singles;
         let units = self.units;
         Addition {
-            record: Record { singles, units, dds },
+            record: Record {
+                singles,
+                units,
+                dds,
+            },
             answer: Added::Done,
         }
     }

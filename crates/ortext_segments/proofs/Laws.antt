@@ -1,3 +1,4 @@
+pub mod KeyLengths
 pub mod Keys
 pub mod Scan
 pub mod Segments

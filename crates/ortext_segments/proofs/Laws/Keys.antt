@@ -1,69 +1,20 @@
 -- Laws of keys: how far a key goes, and what its bytes are not.
 -- Assumes nothing.
-use mathlib.Core.Path.{_≡_, refl, sym, ap, _∙_}
+use mathlib.Core.Path.{_≡_, refl, ap, _∙_}
 use mathlib.Core.Bool.{true, false, not}
-use mathlib.Core.List.{List, [], _∷_, _++_, map}
-use Prim.Native.Nat.{ℕ, zero, suc, _+_, _-_, _≤_, _<_}
-use native.Mathlib.Nat.{le-of-suc-le-suc, not-suc-le-zero}
+use mathlib.Core.List.{List, [], _∷_, _++_}
+use Prim.Native.Nat.{ℕ, _+_, _≤_, _<_}
 use native.Mathlib.Numerals.{add-one}
 use native.Mathlib.Omega.{arith}
-use borrow.Author.Tests.{leb-true, ne-eqb}
-use lib.Dec.{eqb, leb}
-use lib.ListN.{length, take, drop, getD, replicate, drop-of-length-le, List·getD-map}
+use borrow.Author.Tests.{ne-eqb}
+use lib.Dec.{eqb}
+use lib.ListN.{length, take, drop, getD, drop-of-length-le}
 use lib.Seq.{drop-cons}
-use Rattle.chars.specs.Lists.{all, bytes}
+use Rattle.chars.specs.Lists.{all}
 use Rattle.chars.specs.Class.{isLabelChar, isLetter, isDigit, between}
-use Rattle.chars.specs.Case.{sameText}
-use Rattle.chars.proofs.Laws.Lists.{all-at, all-weaken, and-left, and-right, by-test, true-not-false}
+use Rattle.chars.proofs.Laws.Lists.{all-weaken, and-left, and-right, by-test, true-not-false}
 use Rattle.chars.proofs.Laws.Parts.{clear}
-use Rattle.ortext_segments.specs.declared.keys.KeyName.{KeyName}
-use Rattle.ortext_segments.specs.Keys.{Keys, Spells, keyCount, keyNumber, keys}
 use Rattle.ortext_segments.specs.Segments.{keyRun}
-
--- ---- the table of the code
-
--- a key as the code has it: its bytes, and zeros up to seven
-unfoldable pub named : List ℕ → KeyName
-named s = record { len = length s; bytes = s ++ replicate (7 - length s) 0 }
-
-unfoldable pub table : List KeyName
-unfolding named keys bytes
-table = map named keys
-
-pub key-count : length keys ≡ keyCount
-unfolding keys
-key-count = refl
-
-getD-inside : {A : Type 0} (s : List A) (i : ℕ) (d e : A) → i < length s → getD s i d ≡ getD s i e
-getD-inside [] i d e h = absurd (not-suc-le-zero h)
-getD-inside (x ∷ s) zero d e h = refl
-getD-inside (x ∷ s) (suc i) d e h = getD-inside s i d e (le-of-suc-le-suc h)
-
--- what an entry spells
-pub entry-spells : (k : ℕ) (d : KeyName) → k < keyCount → Spells (getD table k d) (getD keys k [])
-unfolding table keys all
-entry-spells k d h =
-    record {
-      fits = leb-true (getD table k d .len) (length (getD table k d .bytes)) (all-at (λ n. leb (n .len) (length (n .bytes))) table k d refl h);
-      text = sym (List·getD-map (λ (n : KeyName). take (n .len) (n .bytes)) table k d) ∙ getD-inside keys k (take (d .len) (d .bytes)) [] h;
-    }
-
--- ---- the number of a key
-
--- the search for a key goes on behind an entry that it does not spell, and stops at one that it does
-pub number-more : (ks : Keys) (k : ℕ) (s : List ℕ) → k < length ks → sameText (getD ks k []) s ≡ false
-    → keyNumber (drop k ks) s ≡ suc (keyNumber (drop (k + 1) ks) s)
-unfolding keyNumber
-number-more ks k s h e = rw (add-one, drop-cons ks k [], e)
-
-pub number-here : (ks : Keys) (k : ℕ) (s : List ℕ) → k < length ks → sameText (getD ks k []) s ≡ true
-    → keyNumber (drop k ks) s ≡ 0
-unfolding keyNumber
-number-here ks k s h e = rw (drop-cons ks k [], e)
-
-pub number-end : (ks : Keys) (k : ℕ) (s : List ℕ) → length ks ≤ k → keyNumber (drop k ks) s ≡ 0
-unfolding keyNumber
-number-end ks k s h = rw (drop-of-length-le ks)
 
 -- ---- how far a key goes
 
