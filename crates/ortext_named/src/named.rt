@@ -15,10 +15,9 @@ use ortext_segments::scan::Span;
 ghost use mathlib.Core.Path.{_≡_};
 ghost use Prim.Native.Nat.{_<_, min};
 ghost use lib.Dec.{leb};
-ghost use mathlib.Core.Bool.{not};
+ghost use mathlib.Core.Bool.{_&&_, not};
 ghost use Rattle.oraddr.specs.Bounds.{ownLevels};
-ghost use Rattle.ortext_segments.specs.Segments.{unknown};
-ghost use Rattle.ortext_named.specs.Named.{isBeside, nothing, takeFound, withDd, withFound, withOnce, withUnit};
+ghost use Rattle.ortext_named.specs.Named.{isAbsent, isBeside, nothing, takeFound};
 
 // The places of a DD's type and value.
 pub struct DdPlaces {
@@ -49,6 +48,16 @@ fn is_settled(key: usize, n: usize) -> bool
     key < OWN_LEVELS
 }
 
+// Whether what stands once can be taken: it is the first, and it is not empty.
+fn is_free(there: Span, value: Span) -> bool
+    ensures { λ r. ⌜ r ≡ (isAbsent there && not (isAbsent value)) ⌝ }
+{
+    if value.len == 0 {
+        return false;
+    }
+    there.len == 0
+}
+
 impl Named {
     pub fn nothing() -> Named
         ensures { λ r. ⌜ r ≡ nothing ⌝ }
@@ -67,79 +76,48 @@ impl Named {
         }
     }
 
-    // What stands once: the first, and it is not empty.
-    fn with_once(mut self, k: usize, value: Span) -> Named
-        requires { ⌜ k < unknown ⌝ }
-        ensures { λ r. ⌜ r ≡ withOnce self k value ⌝ }
-    {
-        let there = self.once[k];
-        if 0 < there.len {
-            self.bad = true;
-            return self;
-        }
-        if value.len == 0 {
-            self.bad = true;
-            return self;
-        }
-        self.once[k] = value;
-        self
-    }
-
-    fn with_unit(mut self, value: Span) -> Named
-        ensures { λ r. ⌜ r ≡ withUnit self value ⌝ }
-    {
-        let n = self.unit_count;
-        if MOST <= n {
-            self.bad = true;
-            return self;
-        }
-        self.units[n] = value;
-        self.unit_count = n + 1;
-        self
-    }
-
-    fn with_dd(mut self, places: DdPlaces) -> Named
-        ensures { λ r. ⌜ r ≡ withDd self places ⌝ }
-    {
-        let n = self.dd_count;
-        if MOST <= n {
-            self.bad = true;
-            return self;
-        }
-        self.dds[n] = places;
-        self.dd_count = n + 1;
-        self
-    }
-
-    // A segment whose key is no settled level's.
-    fn with_found(mut self, f: Found) -> Named
-        ensures { λ r. ⌜ r ≡ withFound self f ⌝ }
-    {
-        let key = f.key;
-        let value = f.value;
-        if key == OU_KEY {
-            return self.with_unit(value);
-        }
-        if key == DD_KEY {
-            let kind = f.kind;
-            return self.with_dd(DdPlaces { kind, value });
-        }
-        if key < UNKNOWN {
-            return self.with_once(key, value);
-        }
-        self.bad = true;
-        self
-    }
-
-    // What is named when a further segment has been read, the first n levels being settled.
+    // What is named when a further segment has been read, the first n levels being settled. All of it stands here, since each method in
+    // between would copy `self`.
     pub fn with(mut self, f: Found, n: usize) -> Named
         ensures { λ r. ⌜ r ≡ takeFound n self f ⌝ }
     {
-        if is_settled(f.key, n) {
+        let key = f.key;
+        let value = f.value;
+        if is_settled(key, n) {
             self.again = true;
             return self;
         }
-        self.with_found(f)
+        if key == OU_KEY {
+            let count = self.unit_count;
+            if MOST <= count {
+                self.bad = true;
+                return self;
+            }
+            self.units[count] = value;
+            self.unit_count = count + 1;
+            return self;
+        }
+        if key == DD_KEY {
+            let count = self.dd_count;
+            if MOST <= count {
+                self.bad = true;
+                return self;
+            }
+            let kind = f.kind;
+            self.dds[count] = DdPlaces { kind, value };
+            self.dd_count = count + 1;
+            return self;
+        }
+        if UNKNOWN <= key {
+            self.bad = true;
+            return self;
+        }
+        if !is_free(self.once[key], value) {
+            self.bad = true;
+            return self;
+        }
+        self.once[key] = value;
+        self
     }
 
     // Whether PN is named beside S, G, I or GQ.
