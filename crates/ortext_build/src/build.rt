@@ -19,14 +19,14 @@ use ortext_segments::keys::key_name;
 use ortext_segments::scan::Span;
 ghost use mathlib.Core.Path.{_≡_};
 ghost use mathlib.Core.Bool.{cond};
-ghost use mathlib.Core.List.{[], _∷_, map, reverse};
+ghost use mathlib.Core.List.{[], _∷_, map};
 ghost use mathlib.Core.Option.{some};
 ghost use Prim.Native.Nat.{_+_, _*_, _<_, _≤_};
 ghost use lib.Dec.{eqb};
 ghost use lib.ListN.{drop, getD, length, take};
 ghost use Rattle.oraddr.specs.Bounds.{I, singleCount};
 ghost use Rattle.oraddr.specs.Add.{addDd, addUnit, told};
-ghost use Rattle.ortext_build.specs.Adding.{addDds, addSingles, addUnits, Fronted, addHeld, addName, addPn, ddAt, done, start};
+ghost use Rattle.ortext_build.specs.Adding.{Fronted, addDds, addHeld, addName, addPn, addSingles, addUnits, ddAt, done, heldDds, heldUnits, start};
 ghost use Rattle.ortext_name.specs.Places.{Placed, lettersAt, nameAt};
 ghost use Rattle.ortext_segments.specs.Scan.{spanText};
 ghost use Rattle.ortext_named.specs.Named.{AllSound, Sound};
@@ -80,18 +80,12 @@ fn add_value(rec: Record, k: usize, value: &[u8]) -> Addition
     rec.with_single(k, value)
 }
 
-// Adds the attribute with the number k that a text names at a span; where it names none, nothing.
+// Adds the attribute with the number k that a text names at a span.
 fn add_single(rec: Record, s: &[u8], k: usize, span: Span) -> Addition
     requires { ⌜ k < singleCount ⌝ }
     requires { ⌜ Sound (now s) span ⌝ }
     ensures { λ r. ⌜ told r ≡ addSingles k (spanText (now (s .entry)) span ∷ []) (start rec) ⌝ }
 {
-    if span.len == 0 {
-        return Addition {
-            record: rec,
-            answer: Added::Done,
-        };
-    }
     if ROOM < span.len {
         return Addition {
             record: rec,
@@ -167,13 +161,18 @@ fn add_singles(rec: Record, s: &[u8], named: Named) -> Addition
     let mut next = rec;
     let mut k = 0;
     while k < SINGLES {
-        let done = add_single(next, s, k, named.once[k]);
-        next = done.record;
-        let answer = done.answer;
-        if let Added::Refused = answer {
-            return done;
+        let span = named.once[k];
+        if span.len == 0 {
+            k += 1; // not named: no record is copied for it
+        } else {
+            let done = add_single(next, s, k, span);
+            next = done.record;
+            let answer = done.answer;
+            if let Added::Refused = answer {
+                return done;
+            }
+            k += 1;
         }
-        k += 1;
     }
     Addition {
         record: next,
@@ -214,20 +213,23 @@ pub fn add_name(rec: Record, text: &[u8], places: NamePlaces) -> Addition
     if let Added::Refused = answer {
         return b;
     }
-    add_initials(b.record, text, places.from, places.initials)
+    let initials = places.initials;
+    if initials == 0 {
+        return b;
+    }
+    add_initials(b.record, text, places.from, initials)
 }
 
-// Adds the name that PN gives; where it is not named, nothing.
-fn add_pn(rec: Record, s: &[u8], span: Span) -> Addition
+// Adds to what came before the name that PN gives; where it is not named, nothing.
+fn add_pn(before: Addition, s: &[u8], span: Span) -> Addition
     requires { ⌜ Sound (now s) span ⌝ }
-    ensures { λ r. ⌜ done (told r) ≡ done (addPn (now (s .entry)) span rec) ⌝ }
+    requires { ⌜ told before ≡ start (before .«record») ⌝ }
+    ensures { λ r. ⌜ done (told r) ≡ done (addPn (now (s .entry)) span (before .«record»)) ⌝ }
 {
     if span.len == 0 {
-        return Addition {
-            record: rec,
-            answer: Added::Done,
-        };
+        return before;
     }
+    let rec = before.record;
     if ROOM < span.len {
         return Addition {
             record: rec,
@@ -246,47 +248,40 @@ fn add_pn(rec: Record, s: &[u8], span: Span) -> Addition
     }
 }
 
-// Adds the units that a text names, the rightmost first: it is the most significant.
-fn add_units(rec: Record, s: &[u8], named: Named) -> Addition
+// Adds to what came before the units that a text names, the rightmost first: it is the most significant.
+fn add_units(before: Addition, s: &[u8], named: Named) -> Addition
     requires { ⌜ AllSound (now s) named ⌝ }
-    ensures { λ r. ⌜ told r ≡ addUnits (reverse (map (spanText (now (s .entry))) (take (named .«unit_count») (named .units)))) (start rec) ⌝ }
+    ensures { λ r. ⌜ told r ≡ addUnits (heldUnits (now (s .entry)) named) (told before) ⌝ }
 {
-    let mut next = rec;
+    let mut done = before;
     let mut i = named.unit_count;
     while 0 < i {
-        i -= 1;
-        let done = add_unit(next, s, named.units[i]);
-        next = done.record;
         let answer = done.answer;
         if let Added::Refused = answer {
             return done;
         }
+        i -= 1;
+        done = add_unit(done.record, s, named.units[i]);
     }
-    Addition {
-        record: next,
-        answer: Added::Done,
-    }
+    done
 }
 
-fn add_dds(rec: Record, s: &[u8], named: Named) -> Addition
+// Adds to what came before the DDs that a text names.
+fn add_dds(before: Addition, s: &[u8], named: Named) -> Addition
     requires { ⌜ AllSound (now s) named ⌝ }
-    ensures { λ r. ⌜ told r ≡ addDds (map (ddAt (now (s .entry))) (take (named .«dd_count») (named .dds))) (start rec) ⌝ }
+    ensures { λ r. ⌜ told r ≡ addDds (heldDds (now (s .entry)) named) (told before) ⌝ }
 {
-    let mut next = rec;
+    let mut done = before;
     let mut i = 0;
     while i < named.dd_count {
-        let done = add_dd(next, s, named.dds[i]);
-        next = done.record;
         let answer = done.answer;
         if let Added::Refused = answer {
             return done;
         }
+        done = add_dd(done.record, s, named.dds[i]);
         i += 1;
     }
-    Addition {
-        record: next,
-        answer: Added::Done,
-    }
+    done
 }
 
 // Adds all that a text names: the attributes that stand once, the name that PN gives, the units and the DDs.
@@ -299,15 +294,10 @@ pub fn add_named(rec: Record, s: &[u8], named: Named) -> Addition
     if let Added::Refused = answer {
         return singles;
     }
-    let name = add_pn(singles.record, s, named.once[PN_KEY]);
+    let name = add_pn(singles, s, named.once[PN_KEY]);
     let answer = name.answer;
     if let Added::Refused = answer {
         return name;
     }
-    let units = add_units(name.record, s, named);
-    let answer = units.answer;
-    if let Added::Refused = answer {
-        return units;
-    }
-    add_dds(units.record, s, named)
+    add_dds(add_units(name, s, named), s, named)
 }

@@ -15,11 +15,14 @@ use Rattle.ortext_build.proofs.build.add_pn.Tie as tie
 
 returns : tie.Need-returns
 unfolding addPn
-returns c = rw (eq-eqb _ 0 (c .if1 .taken))
+returns c = rw (eq-eqb _ 0 (c .if1 .taken)) (ap done (c .before .before .before .pre .1))
 
 returns-2 : tie.Need-returns-2
 unfolding addPn done
-returns-2 c = let t = c .before .before .before .before .before in let a = t .args in rw (ne-eqb _ 0 (c .before .before .if1 .left)) (name-long (a .rec) (spanText (a .s .now) (a .span)) (omega (arith, t .pre .half)))
+returns-2 c =
+    let t = c .before .before .before .before .before .before in
+    let a = t .args in
+    rw (ne-eqb _ 0 (c .before .before .before .if1 .left)) (name-long (a .before .«record») (spanText (a .s .now) (a .span)) (omega (arith, t .pre .0 .half)))
 
 slice-aggregate-part : tie.Need-slice-aggregate-part
 slice-aggregate-part c = fronted-length (c .before .before .unquote .ensures)
@@ -31,16 +34,16 @@ add-name-requires c κs = rw (c .before .places .given .1) at (c .before .before
 returns-3 : tie.Need-returns-3
 unfolding addPn NameReading
 returns-3 c =
-    let a = c .before .before .before .before .before .before .before .before .before .before .before .before .before .before .args in
+    let a = c .before .before .before .before .before .before .before .before .before .before .before .before .before .before .before .args in
     let p = rw (c .before .before .places .given .1) at (c .before .before .before .before .read-name .ensures) in
-    rw (ne-eqb _ 0 (c .before .before .before .before .before .before .before .before .before .before .before .if1 .left)) (ap done (c .add-name .ensures ∙ ap (addName (a .rec)) (sym (p .reads) ∙ ap readName (c .before .before .before .before .before .before .before .unquote .ensures .holds))))
+    rw (ne-eqb _ 0 (c .before .before .before .before .before .before .before .before .before .before .before .before .if1 .left)) (ap done (c .add-name .ensures ∙ ap (addName (a .before .«record»)) (sym (p .reads) ∙ ap readName (c .before .before .before .before .before .before .before .unquote .ensures .holds))))
 
 returns-4 : tie.Need-returns-4
 unfolding addPn addName NameReading
 returns-4 c =
-    let a = c .before .before .before .before .before .before .before .before .before .before .before .before .args in
+    let a = c .before .before .before .before .before .before .before .before .before .before .before .before .before .args in
     let p = rw (c .enum-told .given .1) at (c .before .before .read-name .ensures) in
-    rw (ne-eqb _ 0 (c .before .before .before .before .before .before .before .before .before .if1 .left)) (ap (λ o. done (addName (a .rec) o)) (sym p ∙ ap readName (c .before .before .before .before .before .unquote .ensures .holds)))
+    rw (ne-eqb _ 0 (c .before .before .before .before .before .before .before .before .before .before .if1 .left)) (ap (λ o. done (addName (a .before .«record») o)) (sym p ∙ ap readName (c .before .before .before .before .before .unquote .ensures .holds)))
 
 pub add-pn-spec : {M : Type 1} → statement M
 add-pn-spec = tie.close (tie.spec returns returns-2 (λ c. search needs) (λ c κs. search needs) (λ c. search needs) slice-aggregate-part

@@ -2,7 +2,6 @@
 -- Assumes nothing.
 use mathlib.Core.Bool.{and-false, and-true}
 use borrow.Author.Tests.{eq-eqb, ne-eqb}
-use borrow.Author.Needs.{needs}
 use Rattle.ortext_named.proofs.named.is_free.Statement.{statement}
 use Rattle.ortext_named.proofs.named.is_free.Tie as tie
 

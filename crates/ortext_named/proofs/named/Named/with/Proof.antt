@@ -47,15 +47,25 @@ returns-7 : tie.Need-returns-7
 unfolding takeFound withFound withOnce
 returns-7 c =
     let at = c .before .before .before in
-    rw (new (at .before .before .before), ne-eqb _ 8 (at .before .before .if2 .left), ne-eqb _ 9 (at .before .if4 .left), lt-ltb _ 11 (at .if6 .left),
-    sym (c .before .is-free .ensures) ∙ not-true (c .before .is-free .result) (c .if7 .taken))
+    rw (
+      new (at .before .before .before),
+      ne-eqb _ 8 (at .before .before .if2 .left),
+      ne-eqb _ 9 (at .before .if4 .left),
+      lt-ltb _ 11 (at .if6 .left),
+      sym (c .before .is-free .ensures) ∙ not-true (c .before .is-free .result) (c .if7 .taken),
+    )
 
 returns-8 : tie.Need-returns-8
 unfolding takeFound withFound withOnce
 returns-8 c =
     let at = c .before .before .before in
-    rw (new (at .before .before .before), ne-eqb _ 8 (at .before .before .if2 .left), ne-eqb _ 9 (at .before .if4 .left), lt-ltb _ 11 (at .if6 .left),
-    sym (c .before .is-free .ensures) ∙ not-false (c .before .is-free .result) (c .if7 .left))
+    rw (
+      new (at .before .before .before),
+      ne-eqb _ 8 (at .before .before .if2 .left),
+      ne-eqb _ 9 (at .before .if4 .left),
+      lt-ltb _ 11 (at .if6 .left),
+      sym (c .before .is-free .ensures) ∙ not-false (c .before .is-free .result) (c .if7 .left),
+    )
 
 pub with-spec : {M : Type 1} → statement M
 with-spec = tie.close (tie.spec (λ c κs. search needs) returns returns-2 (λ c. search needs) (λ c. search needs) (λ c. search needs) returns-3
