@@ -1,6 +1,7 @@
 //! Internet addresses: the accepted shape, unquoting, and the coding of an address that is carried whole.
 
-use crate::chars::{is_dotted_atoms, is_printable, same};
+use crate::chars::{dotted_atoms, is, is_dotted_atoms, same, ITSELF};
+use crate::scratch::Room;
 
 /// The longest address that is taken.
 pub const LIMIT: usize = 2048;
@@ -29,44 +30,31 @@ fn quoted_string(text: &[u8]) -> Option<usize> {
 
 /// The accepted shape: a local part, `@`, a domain.
 pub fn shape(text: &[u8]) -> Option<Parts<'_>> {
-    let end = if text.first() == Some(&b'"') {
-        quoted_string(text)?
-    } else {
-        text.iter().position(|&b| b == b'@')?
+    let end = match text.first()? {
+        b'"' => quoted_string(text)?,
+        _ => dotted_atoms(text)?,
     };
     let (local, rest) = text.split_at(end);
-    if local.first() != Some(&b'"') && !is_dotted_atoms(local) {
-        return None;
-    }
     let domain = rest.strip_prefix(b"@")?;
     is_dotted_atoms(domain).then_some(Parts { local, domain })
 }
 
-pub fn unquote(local: &[u8]) -> Vec<u8> {
-    if local[0] != b'"' {
-        return local.to_vec();
+/// What a local part says: without the quotes and backslashes of a quoted string.
+pub fn unquote<'a>(local: &'a [u8], room: &mut Room<'a>) -> &'a [u8] {
+    match local {
+        [b'"', inner @ .., b'"'] if inner.contains(&b'\\') => room.keep_unmarked(inner, b'\\'),
+        [b'"', inner @ .., b'"'] => inner,
+        _ => local,
     }
-    let inner = &local[1..local.len() - 1];
-    let mut out = Vec::with_capacity(inner.len());
-    let mut at = 0;
-    while at < inner.len() {
-        at += usize::from(inner[at] == b'\\');
-        out.push(inner[at]);
-        at += 1;
-    }
-    out
 }
 
-/// A local part of this text: bare where it is atoms joined by dots, else quoted. Record text and names hold neither quote nor backslash.
-pub fn quote(text: Vec<u8>) -> Vec<u8> {
-    if is_dotted_atoms(&text) {
-        return text;
+/// Makes the text from `start` on a local part: bare where it is atoms joined by dots, else quoted. Record text and names hold neither
+/// quote nor backslash.
+pub fn quote(out: &mut Vec<u8>, start: usize) {
+    if !is_dotted_atoms(&out[start..]) {
+        out.insert(start, b'"');
+        out.push(b'"');
     }
-    let mut out = Vec::with_capacity(text.len() + 2);
-    out.push(b'"');
-    out.extend_from_slice(&text);
-    out.push(b'"');
-    out
 }
 
 const LETTERS: [(u8, u8); 7] = [
@@ -79,40 +67,40 @@ const LETTERS: [(u8, u8); 7] = [
     (b'r', b')'),
 ];
 
-/// The value that carries an address.
-pub fn code(text: &[u8]) -> Vec<u8> {
-    let mut out = Vec::with_capacity(text.len() + 16);
+/// Writes the value that carries an address.
+pub fn code(text: &[u8], out: &mut Vec<u8>) {
     let mut before = 0;
     for &b in text {
-        if let Some((letter, _)) = LETTERS.iter().find(|(_, coded)| *coded == b) {
-            out.extend_from_slice(&[b'(', *letter, b')']);
-        } else if !is_printable(b) || (b == b' ' && before == b' ') {
-            out.extend_from_slice(format!("({b:03})").as_bytes());
-        } else {
+        if is(ITSELF, b) || (b == b' ' && before != b' ') {
             out.push(b);
+        } else {
+            code_group(b, out);
         }
         before = b;
     }
-    out
 }
 
-/// The address that a value carries; None where a parenthesis stands outside the groups.
-pub fn decode(value: &[u8]) -> Option<Vec<u8>> {
-    let mut out = Vec::with_capacity(value.len());
-    let mut rest = value;
-    while let Some((&b, after)) = rest.split_first() {
-        rest = after;
-        match b {
-            b'(' => {
-                let close = rest.iter().position(|&b| b == b')')?;
-                out.push(decode_group(&LETTERS, &rest[..close])?);
-                rest = &rest[close + 1..];
-            }
-            b')' => return None,
-            _ => out.push(b),
-        }
+fn code_group(b: u8, out: &mut Vec<u8>) {
+    if let Some((letter, _)) = LETTERS.iter().find(|(_, coded)| *coded == b) {
+        out.extend_from_slice(&[b'(', *letter, b')']);
+    } else {
+        let digit = |unit: u8| b'0' + b / unit % 10;
+        out.extend_from_slice(&[b'(', digit(100), digit(10), digit(1), b')']);
     }
-    Some(out)
+}
+
+/// Writes the address that a value carries; None where a parenthesis stands outside the groups.
+pub fn decode(value: &[u8], out: &mut Vec<u8>) -> Option<()> {
+    let mut rest = value;
+    while let Some(open) = rest.iter().position(|&b| b == b'(' || b == b')') {
+        out.extend_from_slice(&rest[..open]);
+        let group = rest[open..].strip_prefix(b"(")?;
+        let close = group.iter().position(|&b| b == b')')?;
+        out.push(decode_group(&LETTERS, &group[..close])?);
+        rest = &group[close + 1..];
+    }
+    out.extend_from_slice(rest);
+    Some(())
 }
 
 /// What stands between the marks of a group: one of these letters, in either case, or three digits up to 127.

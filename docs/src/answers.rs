@@ -13,11 +13,13 @@ use std::io::{self, BufRead, Write};
 
 use plain::address::shared_tail;
 use plain::dates::{to_822, to_x400};
+use plain::levels::OU;
 use plain::mailbox;
 use plain::mapping::{comes_back, is_carrier, to_address, to_record};
-use plain::record::Record;
+use plain::record::{Dd, Record};
 use plain::restricted::{restrict, unrestrict};
-use plain::run::record_of_text;
+use plain::run::read_record;
+use plain::scratch::Scratch;
 use plain::table::Table;
 use plain::text::write_text;
 
@@ -34,23 +36,42 @@ fn hex(text: &[u8]) -> String {
     text.iter().map(|b| format!("{b:02x}")).collect()
 }
 
-fn record(fields: &[&str]) -> Record {
-    let value = |which: usize| Some(fields[which]).filter(|field| *field != "-").map(bytes);
-    Record {
-        c: value(0),
-        admd: value(1),
-        prmd: value(2),
-        o: value(3),
-        s: value(4),
-        g: value(5),
-        i: value(6),
-        gq: value(7),
-        units: fields[8].split_terminator(',').map(bytes).collect(),
-        dds: fields[9]
-            .split_terminator(',')
-            .map(|dd| dd.split_once(':').expect("a type and a value"))
-            .map(|(k, v)| (bytes(k), bytes(v)))
-            .collect(),
+/// What a record's fields spell, to lend it its values.
+struct Spelt {
+    values: Vec<Option<Vec<u8>>>,
+    units: Vec<Vec<u8>>,
+    dds: Vec<(Vec<u8>, Vec<u8>)>,
+}
+
+impl Spelt {
+    fn new(fields: &[&str]) -> Spelt {
+        let value = |field: &&str| Some(*field).filter(|field| *field != "-").map(bytes);
+        Spelt {
+            values: fields[..8].iter().map(value).collect(),
+            units: fields[8].split_terminator(',').map(bytes).collect(),
+            dds: fields[9]
+                .split_terminator(',')
+                .map(|dd| dd.split_once(':').expect("a type and a value"))
+                .map(|(k, v)| (bytes(k), bytes(v)))
+                .collect(),
+        }
+    }
+
+    fn record(&self) -> Record<'_> {
+        let value = |which: usize| self.values[which].as_deref();
+        let mut record = Record::default();
+        (record.s, record.g) = (value(4), value(5));
+        (record.i, record.gq) = (value(6), value(7));
+        for level in 0..OU {
+            *record.levels.get_mut(level) = value(level);
+        }
+        for unit in &self.units {
+            record.levels.add_unit(unit);
+        }
+        for (kind, value) in &self.dds {
+            record.add_dd(Dd { kind, value });
+        }
+        record
     }
 }
 
@@ -98,25 +119,39 @@ fn answer(fields: &[&str]) -> String {
 }
 
 fn under_table(table: &[u8], fields: &[&str]) -> String {
-    match (fields[0], Table::read(table)) {
-        (_, Err(line)) => format!("7\t{line}"),
-        ("a2r", Ok(table)) => done(
-            to_record(&table, &bytes(fields[2]))
-                .0
-                .map(|record| write_text(&record, 0)),
-        ),
-        ("r2a", Ok(table)) => done(to_address(&table, &record(&fields[3..]), room(fields[2]))),
-        ("load", Ok(_)) => "0".to_string(),
-        ("witness", Ok(table)) => {
-            let shown = record_of_text(&bytes(fields[2])).is_some_and(|record| {
-                record.is_canonical()
-                    && !is_carrier(&table, &record)
-                    && !comes_back(&table, &record)
-            });
-            format!("{}", u8::from(shown))
-        }
+    let table = match Table::read(table) {
+        Ok(table) => table,
+        Err(line) => return format!("7\t{line}"),
+    };
+    match fields[0] {
+        "a2r" => done(record_text(&table, &bytes(fields[2]))),
+        "r2a" => done(address(&table, &Spelt::new(&fields[3..]), room(fields[2]))),
+        "load" => "0".to_string(),
+        "witness" => u8::from(is_witness(&table, &bytes(fields[2]))).to_string(),
         _ => panic!("no such call"),
     }
+}
+
+fn record_text(table: &Table, address: &[u8]) -> Result<Vec<u8>, u8> {
+    let (mut scratch, mut record) = (Scratch::default(), Record::default());
+    to_record(table, address, &mut scratch, &mut record).0?;
+    let mut text = Vec::new();
+    write_text(&record, 0, &mut text);
+    Ok(text)
+}
+
+fn address(table: &Table, record: &Spelt, room: usize) -> Result<Vec<u8>, u8> {
+    let mut text = Vec::new();
+    to_address(table, &record.record(), room, &mut text)?;
+    Ok(text)
+}
+
+fn is_witness(table: &Table, text: &[u8]) -> bool {
+    let (mut scratch, mut record) = (Scratch::default(), Record::default());
+    read_record(text, &mut scratch, &mut record).is_some()
+        && record.is_canonical()
+        && !is_carrier(table, &record)
+        && !comes_back(table, &record)
 }
 
 fn main() -> io::Result<()> {

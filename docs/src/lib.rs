@@ -4,11 +4,15 @@
 pub mod address;
 pub mod chars;
 pub mod dates;
+mod index;
+pub mod levels;
 pub mod list;
 pub mod mailbox;
 pub mod mapping;
+mod names;
 pub mod record;
 pub mod restricted;
 pub mod run;
+pub mod scratch;
 pub mod table;
 pub mod text;

@@ -2,18 +2,33 @@
 
 use crate::mapping::{to_address, to_record};
 use crate::record::Record;
+use crate::scratch::Scratch;
 use crate::table::Table;
-use crate::text::{read_text, with_space_admd, write_text};
+use crate::text::{add_space_admd, read_text, write_text};
 
 /// The longest line, without its LF.
 pub const LIMIT: usize = 4096;
 
-/// The record that a record text gives by steps 2 and 4; None is refusal 4.
-pub fn record_of_text(text: &[u8]) -> Option<Record> {
-    read_text(text)?.ok().map(with_space_admd)
+/// Fills an empty record with what a record text gives by steps 2 and 4; None is refusal 4.
+pub fn read_record<'a>(
+    text: &'a [u8],
+    scratch: &'a mut Scratch,
+    record: &mut Record<'a>,
+) -> Option<()> {
+    // Values may lose `$`, and then a name its dots.
+    let (mut room, _) = scratch.room(2 * text.len());
+    read_text(text, &mut room, record)?.ok()?;
+    add_space_admd(record);
+    Some(())
 }
 
-fn answer(table: &Result<Table, usize>, line: &[u8]) -> Result<Vec<u8>, u8> {
+/// Writes the other form of a line's address or record, or returns the refusal.
+fn answer(
+    table: &Result<Table, usize>,
+    line: &[u8],
+    scratch: &mut Scratch,
+    out: &mut Vec<u8>,
+) -> Result<(), u8> {
     if line.len() > LIMIT {
         return Err(1);
     }
@@ -22,31 +37,38 @@ fn answer(table: &Result<Table, usize>, line: &[u8]) -> Result<Vec<u8>, u8> {
         _ => return Err(1),
     };
     let table = table.as_ref().map_err(|_| 7)?;
+    let mut record = Record::default();
     if tag == b'A' {
-        return to_record(table, rest)
-            .0
-            .map(|record| write_text(&record, 0));
+        to_record(table, rest, scratch, &mut record).0?;
+        write_text(&record, 0, out);
+        return Ok(());
     }
-    to_address(table, &record_of_text(rest).ok_or(4)?, usize::MAX)
+    read_record(rest, scratch, &mut record).ok_or(4)?;
+    to_address(table, &record, usize::MAX, out)
 }
 
-/// The answer to one line, without its LF, and an LF behind it.
-pub fn answer_line(table: &Result<Table, usize>, line: &[u8], out: &mut Vec<u8>) {
-    match answer(table, line) {
-        Ok(text) => {
-            out.extend_from_slice(b"0\t");
-            out.extend_from_slice(&text);
-        }
-        Err(number) => out.push(b'0' + number),
+/// Writes the answer to one line, which is without its LF, and an LF behind it.
+pub fn answer_line(
+    table: &Result<Table, usize>,
+    line: &[u8],
+    scratch: &mut Scratch,
+    out: &mut Vec<u8>,
+) {
+    let start = out.len();
+    out.extend_from_slice(b"0\t");
+    if let Err(number) = answer(table, line, scratch, out) {
+        out.truncate(start);
+        out.push(b'0' + number);
     }
     out.push(b'\n');
 }
 
 /// The answers to a run of lines.
 pub fn run(table: &Result<Table, usize>, input: &[u8]) -> Vec<u8> {
-    let mut out = Vec::new();
+    let (mut scratch, mut out) = (Scratch::default(), Vec::new());
     for line in input.split_inclusive(|&b| b == b'\n') {
-        answer_line(table, line.strip_suffix(b"\n").unwrap_or(line), &mut out);
+        let line = line.strip_suffix(b"\n").unwrap_or(line);
+        answer_line(table, line, &mut scratch, &mut out);
     }
     out
 }

@@ -1,7 +1,10 @@
-//! Record text and personal names, read and written.
+//! Record text, read and written.
 
-use crate::chars::{is_printable, same};
-use crate::record::{Record, LEVELS};
+use crate::chars::{is, is_printable, run_of, same, BARE, KEY, MARK};
+use crate::levels::{Value, ADMD, C, LEVELS, O, PRMD};
+use crate::names::read_name;
+use crate::record::{Dd, Record};
+use crate::scratch::Room;
 
 /// Why a text that reads as record text gives no record.
 #[derive(Clone, Copy, Debug, PartialEq)]
@@ -12,239 +15,196 @@ pub enum Fault {
     PnIsNoName,
 }
 
-enum Key {
-    Attribute(usize),
+enum Key<'a> {
+    /// A level above the units.
+    Level(usize),
     Unit,
-    Dd(Vec<u8>),
+    S,
+    G,
+    I,
+    Gq,
+    Pn,
+    Dd(&'a [u8]),
     Unknown,
 }
 
-const ATTRIBUTES: [&[u8]; 9] = [b"C", b"ADMD", b"PRMD", b"O", b"S", b"G", b"I", b"GQ", b"PN"];
-const PN: usize = 8;
+/// Reads from the front of what is left.
+struct Reader<'a, 'r> {
+    rest: &'a [u8],
+    room: &'r mut Room<'a>,
+}
 
-/// The text up to a bare `stop`, `$` taken off; a bare `/` or `=` elsewhere, or a `$` that quotes nothing, is unreadable.
-fn quoted_until(text: &[u8], from: usize, stop: u8) -> Option<(Vec<u8>, usize)> {
-    let mut taken = Vec::new();
-    let mut at = from;
-    loop {
-        match *text.get(at)? {
-            b if b == stop => return Some((taken, at + 1)),
-            b'$' => {
-                let quoted = *text.get(at + 1)?;
-                if !is_printable(quoted) {
-                    return None;
+impl<'a> Reader<'a, '_> {
+    /// The text up to a bare `stop`, `$` taken off; a bare `/` or `=` elsewhere, or a `$` that quotes nothing, is unreadable.
+    fn quoted_until(&mut self, stop: u8) -> Option<&'a [u8]> {
+        let text = self.rest;
+        let (mut end, mut is_quoted) = (0, false);
+        loop {
+            end += run_of(BARE, &text[end..]);
+            match *text.get(end)? {
+                b if b == stop => break,
+                b'$' => {
+                    text.get(end + 1).filter(|b| is_printable(**b))?;
+                    is_quoted = true;
+                    end += 2;
                 }
-                taken.push(quoted);
-                at += 2;
+                _ => return None,
             }
-            b'/' | b'=' => return None,
-            b if is_printable(b) => {
-                taken.push(b);
-                at += 1;
-            }
-            _ => return None,
+        }
+        self.rest = &text[end + 1..];
+        let taken = &text[..end];
+        if is_quoted {
+            return Some(self.room.keep_unmarked(taken, b'$'));
+        }
+        Some(taken)
+    }
+
+    /// A key with its `=`: letters, digits or hyphens; `DD` alone takes a dot and a type.
+    fn key(&mut self) -> Option<Key<'a>> {
+        let text = self.rest;
+        let (key, behind) = text.split_at(run_of(KEY, text));
+        let (mark, behind) = behind.split_first()?;
+        self.rest = behind;
+        match mark {
+            b'=' if !key.is_empty() => Some(plain_key(key)),
+            b'.' if same(key, b"DD") => self.quoted_until(b'=').map(Key::Dd),
+            _ => None,
         }
     }
 }
 
-/// A key from `from` with its `=`: letters, digits or hyphens; `DD` alone takes a dot and a type.
-fn read_key(text: &[u8], from: usize) -> Option<(Key, usize)> {
-    let length = text[from..]
-        .iter()
-        .take_while(|b| b.is_ascii_alphanumeric() || **b == b'-')
-        .count();
-    if length == 0 {
-        return None;
-    }
-    let key = &text[from..from + length];
-    let after = from + length;
-    match *text.get(after)? {
-        b'.' if same(key, b"DD") => {
-            let (kind, at) = quoted_until(text, after + 1, b'=')?;
-            Some((Key::Dd(kind), at))
-        }
-        b'=' => Some((plain_key(key), after + 1)),
-        _ => None,
+/// The key, case aside, that has no type behind it.
+fn plain_key(key: &[u8]) -> Key<'static> {
+    match key {
+        [b'C' | b'c'] => Key::Level(C),
+        [b'A' | b'a', b'D' | b'd', b'M' | b'm', b'D' | b'd'] => Key::Level(ADMD),
+        [b'P' | b'p', b'R' | b'r', b'M' | b'm', b'D' | b'd'] => Key::Level(PRMD),
+        [b'O' | b'o'] => Key::Level(O),
+        [b'O' | b'o', b'U' | b'u'] => Key::Unit,
+        [b'S' | b's'] => Key::S,
+        [b'G' | b'g'] => Key::G,
+        [b'I' | b'i'] => Key::I,
+        [b'G' | b'g', b'Q' | b'q'] => Key::Gq,
+        [b'P' | b'p', b'N' | b'n'] => Key::Pn,
+        _ if same(key, b"RFC-822") => Key::Dd(b"RFC-822"),
+        _ => Key::Unknown,
     }
 }
 
-fn plain_key(key: &[u8]) -> Key {
-    if same(key, b"OU") {
-        return Key::Unit;
-    }
-    if same(key, b"RFC-822") {
-        return Key::Dd(b"RFC-822".to_vec());
-    }
-    ATTRIBUTES
-        .iter()
-        .position(|known| same(known, key))
-        .map_or(Key::Unknown, Key::Attribute)
-}
-
-/// Record text: one or more of `/key=value`, then `/`. None where the text is no record text.
-pub fn read_text(text: &[u8]) -> Option<Result<Record, Fault>> {
-    if text.first() != Some(&b'/') {
-        return None;
-    }
-    let mut segments = Vec::new();
-    let mut at = 1;
-    while at < text.len() {
-        let (key, after) = read_key(text, at)?;
-        let (value, next) = quoted_until(text, after, b'/')?;
-        segments.push((key, value));
-        at = next;
-    }
-    if segments.is_empty() {
-        return None;
-    }
-    Some(put_together(segments))
-}
-
-fn put_together(segments: Vec<(Key, Vec<u8>)>) -> Result<Record, Fault> {
-    let mut record = Record::default();
-    let mut values: [Option<Vec<u8>>; 9] = Default::default();
-    for (key, value) in segments {
-        match key {
-            Key::Unknown => return Err(Fault::UnknownKey),
-            Key::Unit => record.units.push(value),
-            Key::Dd(kind) => record.dds.push((kind, value)),
-            Key::Attribute(which) if values[which].is_some() => return Err(Fault::RepeatedKey),
-            Key::Attribute(which) => values[which] = Some(value),
-        }
-    }
-    // The most significant unit stands rightmost.
-    record.units.reverse();
-    let pn = values[PN].take();
-    let [c, admd, prmd, o, s, g, i, gq, _] = values;
-    record = Record {
-        c,
-        admd,
-        prmd,
-        o,
-        s,
-        g,
-        i,
-        gq,
-        ..record
+/// Reads record text, one or more of `/key=value`, then `/`, into an empty record. None where the text is no record text; then, and with
+/// a fault, what is in the record has no use.
+pub fn read_text<'a>(
+    text: &'a [u8],
+    room: &mut Room<'a>,
+    record: &mut Record<'a>,
+) -> Option<Result<(), Fault>> {
+    let rest = text.strip_prefix(b"/").filter(|rest| !rest.is_empty())?;
+    let mut reader = Reader { rest, room };
+    let mut named = Named {
+        record,
+        pn: None,
+        fault: None,
     };
-    if let Some(pn) = pn {
-        if record.has_name() {
-            return Err(Fault::NameBesidePn);
-        }
-        read_name(&pn, &mut record).ok_or(Fault::PnIsNoName)?;
+    while !reader.rest.is_empty() {
+        let key = reader.key()?;
+        let value = reader.quoted_until(b'/')?;
+        named.add(key, value);
     }
-    Ok(record)
+    Some(named.finish(room))
 }
 
-/// A personal name: an optional given name (two or more characters, no dot) and dot, then single letters each with a dot, then a
-/// non-empty surname.
-pub fn read_name(text: &[u8], record: &mut Record) -> Option<()> {
-    let mut at = 0;
-    let mut given = None;
-    if let Some(dot) = text.iter().position(|&b| b == b'.') {
-        if dot >= 2 {
-            given = Some(text[..dot].to_vec());
-            at = dot + 1;
+/// What the segments name, as far as they are read. The units stand as in the text, the most significant last.
+struct Named<'a, 'r> {
+    record: &'r mut Record<'a>,
+    pn: Value<'a>,
+    /// The first fault.
+    fault: Option<Fault>,
+}
+
+impl<'a> Named<'a, '_> {
+    fn add(&mut self, key: Key<'a>, value: &'a [u8]) {
+        let record = &mut *self.record;
+        let place = match key {
+            Key::Unit => return record.levels.add_unit(value),
+            Key::Dd(kind) => return record.add_dd(Dd { kind, value }),
+            Key::Unknown => return self.note(Fault::UnknownKey),
+            Key::Level(level) => record.levels.get_mut(level),
+            Key::S => &mut record.s,
+            Key::G => &mut record.g,
+            Key::I => &mut record.i,
+            Key::Gq => &mut record.gq,
+            Key::Pn => &mut self.pn,
+        };
+        if place.is_some() {
+            return self.note(Fault::RepeatedKey);
         }
+        *place = Some(value);
     }
-    let mut initials = Vec::new();
-    while at + 1 < text.len() && text[at].is_ascii_alphabetic() && text[at + 1] == b'.' {
-        initials.push(text[at]);
-        at += 2;
+
+    fn note(&mut self, fault: Fault) {
+        self.fault.get_or_insert(fault);
     }
-    if at == text.len() {
-        return None;
+
+    /// What is left to do when all segments are read.
+    fn finish(self, room: &mut Room<'a>) -> Result<(), Fault> {
+        if let Some(fault) = self.fault {
+            return Err(fault);
+        }
+        if let Some(pn) = self.pn {
+            if self.record.has_name() {
+                return Err(Fault::NameBesidePn);
+            }
+            read_name(pn, room, self.record).ok_or(Fault::PnIsNoName)?;
+        }
+        self.record.levels.reverse_units();
+        Ok(())
     }
-    record.g = given;
-    record.i = Some(initials).filter(|letters| !letters.is_empty());
-    record.s = Some(text[at..].to_vec());
-    Some(())
 }
 
 /// Step 4: C present without ADMD means that ADMD is one space.
-pub fn with_space_admd(mut record: Record) -> Record {
-    if record.c.is_some() && record.admd.is_none() {
-        record.admd = Some(b" ".to_vec());
+pub fn add_space_admd(record: &mut Record) {
+    if record.levels.get(C).is_some() && record.levels.get(ADMD).is_none() {
+        record.levels.set(ADMD, b" ");
     }
-    record
 }
 
-fn write_segment(out: &mut Vec<u8>, key: &[u8], value: &[u8]) {
-    out.push(b'/');
+/// Writes a value, if there is one, behind its key, with a `$` before each `/` and `=`.
+fn write_value<const LENGTH: usize>(key: &[u8; LENGTH], value: Value, out: &mut Vec<u8>) {
+    let Some(mut rest) = value else {
+        return;
+    };
     out.extend_from_slice(key);
-    out.push(b'=');
-    write_quoted(out, value);
-}
-
-fn write_quoted(out: &mut Vec<u8>, value: &[u8]) {
-    for &b in value {
-        if b == b'/' || b == b'=' {
-            out.push(b'$');
-        }
-        out.push(b);
+    while let Some(at) = rest.iter().position(|&b| is(MARK, b)) {
+        out.extend_from_slice(&rest[..at]);
+        out.extend_from_slice(&[b'$', rest[at]]);
+        rest = &rest[at + 1..];
     }
+    out.extend_from_slice(rest);
 }
 
-/// Record text of the DDs, the name, and the levels from `from` on, in the order that the rules give.
-pub fn write_text(record: &Record, from: usize) -> Vec<u8> {
-    let mut out = Vec::new();
-    for (kind, value) in &record.dds {
-        if same(kind, b"RFC-822") {
-            write_segment(&mut out, b"RFC-822", value);
+/// Writes record text of the DDs, the name, and the levels from `from` on, in the order that the rules give.
+pub fn write_text(record: &Record, from: usize, out: &mut Vec<u8>) {
+    for dd in record.dds() {
+        if dd.is_rfc_822() {
+            write_value(b"/RFC-822=", Some(dd.value), out);
         } else {
-            out.extend_from_slice(b"/DD.");
-            write_quoted(&mut out, kind);
-            out.push(b'=');
-            write_quoted(&mut out, value);
+            write_value(b"/DD.", Some(dd.kind), out);
+            write_value(b"=", Some(dd.value), out);
         }
     }
-    for (key, value) in [
-        (b"G" as &[u8], &record.g),
-        (b"I", &record.i),
-        (b"S", &record.s),
-        (b"GQ", &record.gq),
-    ] {
-        if let Some(value) = value {
-            write_segment(&mut out, key, value);
-        }
-    }
-    const KEYS: [&[u8]; LEVELS] = [b"C", b"ADMD", b"PRMD", b"O", b"OU", b"OU", b"OU", b"OU"];
+    write_value(b"/G=", record.g, out);
+    write_value(b"/I=", record.i, out);
+    write_value(b"/S=", record.s, out);
+    write_value(b"/GQ=", record.gq, out);
     for level in (from..LEVELS).rev() {
-        if let Some(value) = record.level(level) {
-            write_segment(&mut out, KEYS[level], value);
+        let value = record.levels.get(level);
+        match level {
+            C => write_value(b"/C=", value, out),
+            ADMD => write_value(b"/ADMD=", value, out),
+            PRMD => write_value(b"/PRMD=", value, out),
+            O => write_value(b"/O=", value, out),
+            _ => write_value(b"/OU=", value, out),
         }
     }
     out.push(b'/');
-    out
-}
-
-/// The short form of a name, where the rules have it.
-pub fn write_short(record: &Record) -> Option<Vec<u8>> {
-    let surname = record.s.as_deref()?;
-    let initials = record.i.as_deref().unwrap_or(b"");
-    if record.gq.is_some() || !initials.iter().all(u8::is_ascii_alphabetic) {
-        return None;
-    }
-    if record
-        .g
-        .as_deref()
-        .is_some_and(|given| given.len() < 2 || given.contains(&b'.'))
-    {
-        return None;
-    }
-    if let Some(dot) = surname.iter().position(|&b| b == b'.') {
-        if dot < 2 || (record.g.is_none() && record.i.is_none()) {
-            return None;
-        }
-    }
-    let mut out = Vec::new();
-    if let Some(given) = &record.g {
-        out.extend_from_slice(given);
-        out.push(b'.');
-    }
-    for &letter in initials {
-        out.extend_from_slice(&[letter, b'.']);
-    }
-    out.extend_from_slice(surname);
-    Some(out).filter(|out| out[0] != b'/')
 }

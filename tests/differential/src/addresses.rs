@@ -2,7 +2,6 @@
 //! whole", lengths at the limits, and texts that are no addresses.
 
 use plain::chars::is_dotted_atoms;
-use plain::text::write_text;
 
 use crate::damage::noise;
 use crate::random::Random;
@@ -138,7 +137,7 @@ fn unquoted(random: &mut Random, table: &Sample) -> Vec<u8> {
     match random.below(16) {
         0..=5 => name(random),
         6..=8 => local_text(random, table),
-        9 | 10 => write_text(&record(random, table), 0),
+        9 | 10 => record(random, table).text(0),
         11 | 12 => odd_text(random),
         13 => (0..random.below(60))
             .map(|_| 32 + random.below(95) as u8)
@@ -176,7 +175,7 @@ fn long_address(random: &mut Random, table: &Sample) -> Vec<u8> {
 /// An address that a row maps, or the gateway's domain, unless the table has something against it.
 fn plausible(random: &mut Random, table: &Sample) -> Vec<u8> {
     if table.rows.is_empty() || random.one_in(4) {
-        let text = write_text(&record(random, table), 0);
+        let text = record(random, table).text(0);
         return [local(random, &text), table.gateway.domain.clone()].join(&b'@');
     }
     let row = &random.pick(&table.rows).1;

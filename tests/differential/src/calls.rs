@@ -4,15 +4,16 @@ use plain::address;
 use plain::chars::same;
 use plain::mapping::{self, comes_back, is_carrier};
 use plain::record::Record;
-use plain::run::record_of_text;
+use plain::run::read_record;
+use plain::scratch::Scratch;
 use plain::table::Table;
-use plain::text::write_text;
 
 use crate::account::Account;
 use crate::addresses;
 use crate::damage::noise;
 use crate::lent::Lent;
 use crate::library;
+use crate::owned::written;
 use crate::random::Random;
 use crate::records;
 use crate::round::{hex, Compared, Round};
@@ -69,8 +70,9 @@ fn mapped(
 }
 
 fn settled_by(table: &Table, address: &[u8]) -> &'static str {
-    let domain = &address[address.len() - table.gateway.domain.len().min(address.len())..];
-    match same(domain, &table.gateway.domain) {
+    let gateway = table.gateway().domain;
+    let domain = &address[address.len() - gateway.len().min(address.len())..];
+    match same(domain, gateway) {
         true => "at the gateway",
         false => "by a row",
     }
@@ -82,14 +84,15 @@ pub fn to_record(round: &mut Round, account: &mut Account) -> Compared {
     let wanted = match &round.table {
         Err(line) => Err((7, *line)),
         Ok(table) => {
-            let (result, clause) = mapping::to_record(table, &text);
-            match (&result, clause) {
+            let (mut scratch, mut record) = (Scratch::default(), Record::default());
+            let (result, clause) = mapping::to_record(table, &text, &mut scratch, &mut record);
+            match (result, clause) {
                 (_, Some(clause)) => account.count_clause(clause, result.is_err()),
-                (Ok(_), None) => account.count("address mapped", settled_by(table, &text)),
+                (Ok(()), None) => account.count("address mapped", settled_by(table, &text)),
                 (Err(_), None) => {}
             }
             result
-                .map(|record| write_text(&record, 0))
+                .map(|()| written(&record, 0))
                 .map_err(|number| (usize::from(number), 0))
         }
     };
@@ -105,19 +108,22 @@ fn sent_as(table: &Table, record: &Record, address: &[u8]) -> &'static str {
     }
 }
 
+/// What the rules make of a record text: the record's address, or the refusal.
+fn sent(table: &Table, text: &[u8], account: &mut Account) -> Result<Vec<u8>, u8> {
+    let (mut scratch, mut record) = (Scratch::default(), Record::default());
+    read_record(text, &mut scratch, &mut record).ok_or(4u8)?;
+    let mut address = Vec::new();
+    mapping::to_address(table, &record, usize::MAX, &mut address)?;
+    account.count("record sent", sent_as(table, &record, &address));
+    Ok(address)
+}
+
 pub fn to_address(round: &mut Round, account: &mut Account) -> Compared {
     let text = records::record_text(&mut round.random, &round.sample);
     let text = round.spoiled(text);
     let wanted = match &round.table {
         Err(line) => Err((7, *line)),
-        Ok(table) => record_of_text(&text)
-            .ok_or(4u8)
-            .and_then(|record| {
-                let address = mapping::to_address(table, &record, usize::MAX)?;
-                account.count("record sent", sent_as(table, &record, &address));
-                Ok(address)
-            })
-            .map_err(|number| (usize::from(number), 0)),
+        Ok(table) => sent(table, &text, account).map_err(|number| (usize::from(number), 0)),
     };
     let function = round.name("to_address", "list_to_address");
     mapped(round, account, function, library::to_address, &text, wanted)
@@ -125,12 +131,12 @@ pub fn to_address(round: &mut Round, account: &mut Account) -> Compared {
 
 /// Whether this is the text of a canonical record, no carrier, that does not come back.
 fn is_witness(table: &Table, text: &[u8]) -> bool {
-    record_of_text(text).is_some_and(|record| {
-        record.is_canonical()
-            && !is_carrier(table, &record)
-            && !comes_back(table, &record)
-            && write_text(&record, 0) == text
-    })
+    let (mut scratch, mut record) = (Scratch::default(), Record::default());
+    read_record(text, &mut scratch, &mut record).is_some()
+        && record.is_canonical()
+        && !is_carrier(table, &record)
+        && !comes_back(table, &record)
+        && written(&record, 0) == text
 }
 
 /// Some records near the rows of a table that was found sound must come back.
@@ -141,12 +147,13 @@ fn all_come_back(
     account: &mut Account,
 ) -> Compared {
     for _ in 0..if sample.rows.len() <= 40 { 40 } else { 4 } {
-        let record = records::record(random, sample);
+        let made = records::record(random, sample);
+        let record = made.lent();
         if !record.is_canonical() || is_carrier(table, &record) {
             continue;
         }
         if !comes_back(table, &record) {
-            let text = write_text(&record, 0);
+            let text = made.text(0);
             return Err(format!(
                 "check: 0, but this does not come back: {}",
                 hex(&text)

@@ -1,13 +1,13 @@
 //! Rows as a list over a text: well-formed ones laid out in several ways, and each way in which an entry can be bad.
 
 use plain::list::RowEntry;
-use plain::table::{self, LIMIT};
+use plain::table::LIMIT;
 
 use crate::damage::{altered, damaged, noise};
 use crate::library::Row;
 use crate::random::Random;
 use crate::round::hex;
-use crate::tables::{edge_row, Sample, ROWS};
+use crate::tables::{self, edge_row, Sample, ROWS};
 
 pub const G: usize = b'G' as usize;
 pub const D: usize = b'D' as usize;
@@ -65,7 +65,7 @@ impl List {
         (place, value.len())
     }
 
-    fn add(&mut self, random: &mut Random, layout: Layout, kind: u8, row: &table::Row) {
+    fn add(&mut self, random: &mut Random, layout: Layout, kind: u8, row: &tables::Row) {
         match layout {
             Layout::Apart if random.one_in(2) => self.text.extend(noise(random, 12)),
             Layout::Lines => self.text.extend_from_slice(&[kind, b'\t']),
@@ -93,7 +93,7 @@ impl List {
         let long = random.one_in(2);
         while self.rows.len() < entries {
             let number = format!("{}", self.rows.len()).into_bytes();
-            let mut row = table::Row {
+            let mut row = tables::Row {
                 domain: [b"pad", &number[..]].concat(),
                 path: vec![b"XY".to_vec(), b"pad".to_vec(), number],
             };

@@ -16,6 +16,7 @@ mod list_account;
 mod lists;
 mod mailbox_lines;
 mod mailboxes;
+mod owned;
 mod random;
 mod records;
 mod restricted;

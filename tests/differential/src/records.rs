@@ -1,11 +1,11 @@
 //! Records and record texts: canonical ones near a table's rows, carriers, and texts that break each rule.
 
 use plain::address::code;
-use plain::record::{Record, LEVELS};
-use plain::text::write_text;
+use plain::levels::LEVELS;
 
 use crate::addresses::address;
 use crate::damage::{damaged, noise};
+use crate::owned::Owned;
 use crate::random::Random;
 use crate::tables::Sample;
 
@@ -80,14 +80,14 @@ fn bad_value(random: &mut Random) -> Vec<u8> {
     }
 }
 
-fn add_name(random: &mut Random, record: &mut Record) {
+fn add_name(random: &mut Random, record: &mut Owned) {
     record.s = Some(of(random, SURNAMES, 40));
     record.g = random.one_in(2).then(|| of(random, GIVEN, 16));
     record.i = random.one_in(3).then(|| of(random, INITIALS, 5));
     record.gq = random.one_in(8).then(|| value(random, 3));
 }
 
-fn add_dds(random: &mut Random, record: &mut Record) {
+fn add_dds(random: &mut Random, record: &mut Owned) {
     for _ in 0..random.between(1, 4) {
         let kind = of(random, TYPES, 8);
         record.dds.push((kind, value(random, 128)));
@@ -95,7 +95,7 @@ fn add_dds(random: &mut Random, record: &mut Record) {
 }
 
 /// The levels of a row's path, of the gateway's or of none, and further ones behind.
-fn add_levels(random: &mut Random, table: &Sample, record: &mut Record) {
+fn add_levels(random: &mut Random, table: &Sample, record: &mut Owned) {
     let path = match random.below(8) {
         0 => table.gateway.path.clone(),
         1 => Vec::new(),
@@ -128,8 +128,8 @@ fn add_levels(random: &mut Random, table: &Sample, record: &mut Record) {
 }
 
 /// A record that is canonical, or nearly always so, near the table's rows.
-pub fn record(random: &mut Random, table: &Sample) -> Record {
-    let mut record = Record::default();
+pub fn record(random: &mut Random, table: &Sample) -> Owned {
+    let mut record = Owned::default();
     add_levels(random, table, &mut record);
     if !random.one_in(8) {
         add_name(random, &mut record);
@@ -141,9 +141,9 @@ pub fn record(random: &mut Random, table: &Sample) -> Record {
 }
 
 /// A record with the longest values that the bounds allow, each of which is written with `$` throughout.
-fn longest(random: &mut Random) -> Record {
+fn longest(random: &mut Random) -> Owned {
     let of = |n: usize| Some(vec![b'/'; n]);
-    Record {
+    Owned {
         c: Some(b"XY".to_vec()),
         admd: of(16),
         prmd: of(16),
@@ -158,8 +158,8 @@ fn longest(random: &mut Random) -> Record {
 }
 
 /// The gateway's path with one DD of type RFC-822, whose value is what coding gave or is damaged.
-fn carrier(random: &mut Random, table: &Sample) -> Record {
-    let mut record = Record::default();
+fn carrier(random: &mut Random, table: &Sample) -> Owned {
+    let mut record = Owned::default();
     for (level, value) in table.gateway.path.iter().enumerate() {
         if !value.is_empty() {
             record.set_level(level, &random.cased(value));
@@ -171,7 +171,11 @@ fn carrier(random: &mut Random, table: &Sample) -> Record {
     let mut coded = match random.below(4) {
         0 => [&b"a(a)b"[..], *random.pick(groups)].concat(),
         1 => b"a(u)b(A)else.test".to_vec(),
-        _ => code(&address(random, table)),
+        _ => {
+            let mut coded = Vec::new();
+            code(&address(random, table), &mut coded);
+            coded
+        }
     };
     if random.one_in(4) {
         coded = damaged(random, &coded);
@@ -286,19 +290,19 @@ fn rearranged(random: &mut Random, text: &[u8]) -> Vec<u8> {
 /// A record text of any kind.
 pub fn record_text(random: &mut Random, table: &Sample) -> Vec<u8> {
     let text = match random.below(20) {
-        0..=9 => write_text(&record(random, table), 0),
-        10..=14 => write_text(&carrier(random, table), 0),
-        15 => write_text(&longest(random), 0),
+        0..=9 => record(random, table).text(0),
+        10..=14 => carrier(random, table).text(0),
+        15 => longest(random).text(0),
         16 => odd_text(random),
         17 => [
             odd_text(random),
-            write_text(&record(random, table), 0)[1..].to_vec(),
+            record(random, table).text(0)[1..].to_vec(),
         ]
         .concat(),
         18 => noise(random, 300),
         _ => {
             let from = random.below(LEVELS);
-            write_text(&record(random, table), from)
+            record(random, table).text(from)
         }
     };
     if text.len() > 1 && random.one_in(5) {
@@ -309,7 +313,7 @@ pub fn record_text(random: &mut Random, table: &Sample) -> Vec<u8> {
 
 /// What a local part may name beside the levels that its domain settles: a name, units, DDs.
 pub fn local_text(random: &mut Random, table: &Sample) -> Vec<u8> {
-    let mut record = Record::default();
+    let mut record = Owned::default();
     if !random.one_in(6) {
         add_name(random, &mut record);
     }
@@ -323,5 +327,5 @@ pub fn local_text(random: &mut Random, table: &Sample) -> Vec<u8> {
         let level = random.below(4);
         record.set_level(level, b"XY");
     }
-    write_text(&record, 0)
+    record.text(0)
 }

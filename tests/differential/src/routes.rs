@@ -2,6 +2,7 @@
 //! the calls of a run wrote against the rules' answer to the whole run.
 
 use plain::run::{answer_line, run, LIMIT};
+use plain::scratch::Scratch;
 use plain::table::Table;
 
 use crate::account::Account;
@@ -73,7 +74,7 @@ fn owed(
             .position(|&b| b == b'\n')
             .map(|at| from + at)
     };
-    let mut out = Vec::new();
+    let (mut scratch, mut out) = (Scratch::default(), Vec::new());
     let mut at = match (over, lf(0)) {
         (false, _) => 0,
         (true, Some(end)) => end + 1,
@@ -86,7 +87,8 @@ fn owed(
             break;
         }
         let before = out.len();
-        answer_line(table, &input[at..end.unwrap_or(input.len())], &mut out);
+        let line = &input[at..end.unwrap_or(input.len())];
+        answer_line(table, line, &mut scratch, &mut out);
         if out.len() > room {
             out.truncate(before);
             break;

@@ -2,10 +2,18 @@
 
 use std::collections::HashSet;
 
-use plain::table::{Path, Row, LIMIT};
+use plain::table::LIMIT;
 
 use crate::damage::{altered, damaged, noise};
 use crate::random::Random;
+
+/// The fields of a path from C on; an empty field is an omitted PRMD.
+pub type Path = Vec<Vec<u8>>;
+
+pub struct Row {
+    pub domain: Vec<u8>,
+    pub path: Path,
+}
 
 /// A table's text, and what it was made of: a damaged text keeps the rows of the good one, so that addresses still aim at them.
 pub struct Sample {
