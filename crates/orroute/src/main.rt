@@ -23,10 +23,11 @@ ghost use Rattle.orroute.specs.Run.{Advancing, Answering, Stepping, stop
 // A table of as many bytes as one may have, and one more, so that a longer one is seen to be.
 const TABLE_ROOM: usize = 65537;
 
-// What is read and written at a time; any number from that of one line, and of one answer, would do.
+// What is read and written at a time; any number from that of one line, and of one answer, would do. The output has room to spare for the
+// answers to a full input: near its end an answer is put together apart.
 const INPUT_ROOM: usize = 65536;
 
-const OUTPUT_ROOM: usize = 65536;
+const OUTPUT_ROOM: usize = 262144;
 
 // What waits at the front of the input buffer: how many bytes, and whether they begin within a line over the limit. `ended` says that there
 // is nothing more to do, `failed` that this is so because a read or a write failed.
