@@ -10,7 +10,7 @@ use Rattle.orroute.proofs.run.Tie as tie
 
 abbrev Inv-loop : tie.InvT-loop
 Inv-loop text to-path to-domain read input₀ out₀ left₀ turns₀ input out left turns =
-    (length input ≡ 65536) × (length out ≡ 65536) × (left .size ≤ 4096)
+    (length input ≡ 65536) × (length out ≡ 262144) × (left .size ≤ 4096)
 
 abbrev μ-loop : tie.MeasureT-loop
 μ-loop text to-path to-domain read input₀ out₀ left₀ turns₀ input out left turns = turns
