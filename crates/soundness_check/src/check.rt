@@ -37,7 +37,7 @@ fn judge_row(
     requires { ⌜ RowOf (now text) (now «to_path») (now «to_domain») table row ⌝ }
     ensures { λ r. ⌜ JudgesRow FirstBack (now (text .entry)) (now («to_path» .entry)) (now («to_domain» .entry)) table row r ⌝ }
 {
-    let k = count_levels(text, row.path, row.path_end, LEVELS);
+    let k = count_levels(text, row.path, row.path_end);
     if k == 2 {
         return judge_fresh(text, to_path, to_domain, table, row, k);
     }
