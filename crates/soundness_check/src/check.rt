@@ -1,5 +1,4 @@
 // The check of a table: all candidates of all rows are judged, and the first that does not come back is the witness.
-use oraddr::bounds::LEVELS;
 use oraddr::record::Record;
 use soundness::answers::CheckAnswer;
 use soundness::answers::Checked;

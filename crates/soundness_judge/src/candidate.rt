@@ -1,5 +1,4 @@
 // Candidates: the records whose coming back decides about all others. Each has the surname Lee, so none is a carrier.
-use oraddr::bounds::LEVELS;
 use oraddr::bounds::S;
 use oraddr::record::Record;
 use table::line::Row;
