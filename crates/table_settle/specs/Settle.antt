@@ -58,7 +58,7 @@ unfoldable pub settling : List Row → List ℕ → Settling
 unfolding settledFrom resolveBy sameText partsOf
 settling rows d = settledFrom (resolve rows d)
 
--- where each level of a path ends and the next one would start, the first starting at a place
+-- where the level behind each level of a path would start, the first starting at a place
 unfoldable pub nextsFrom : ℕ → List Token → List ℕ
 nextsFrom at [] = []
 nextsFrom at (t ∷ ts) = suc (at + length t) ∷ nextsFrom (suc (at + length t)) ts

@@ -40,8 +40,8 @@ pub struct Settlement {
     pub record: Record,
 }
 
-// Notes in `nexts`, from place k on, where each level of a path ends, and the next one would start: level by level, until no level is left. Returns how
-// many levels the path has, which starts at `at` and ends at `end`, of the `left` that it can have.
+// Notes in `nexts`, from place k on, where the level behind each level of a path would start: one after the other, until no level is
+// left. Returns how many levels the path has, which starts at `at` and ends at `end`, of the `left` that it can have.
 fn lay_levels(
     nexts: &mut [usize],
     text: &[u8],
@@ -102,8 +102,8 @@ pub fn add_level(rec: Record, k: usize, token: &[u8]) -> Addition
     rec.with_unit(token)
 }
 
-// Adds the levels of a path to a record with none. `nexts` has where the one behind each starts, so that no record goes through the
-// recursion, which would copy it at each level.
+// Adds the levels of a path to a record with none. `nexts` has where the level behind each would start, so that no record goes through
+// the recursion, which would copy it at each level.
 fn add_laid(text: &[u8], at: usize, end: usize, nexts: &[usize]) -> Addition
     requires { ⌜ end ≤ length (now text) ⌝ }
     requires { ⌜ take (length (fieldsAt (now text) at end)) (now nexts) ≡ nextsFrom at (fieldsAt (now text) at end) ⌝ }

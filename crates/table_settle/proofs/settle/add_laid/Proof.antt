@@ -1,5 +1,4 @@
--- `table_settle::settle::add_laid` meets its contract. The loop's invariant: the levels that are left end as noted, and added to what came of those
--- before them they are all of them added.
+-- `table_settle::settle::add_laid` meets its contract. The loop's invariant: the levels left, noted from k on, added to what came so far, are all of them added.
 -- Assumes nothing.
 use mathlib.Core.Path.{_≡_, sym, ap, _∙_}
 use Prim.Native.Nat.{_+_, _-_, _<_}
