@@ -3,7 +3,6 @@ use mailaddr::code::put_coded;
 use mapping::answers::RecordAnswer;
 use mapping::answers::ToRecord;
 use oraddr::bounds::DD_VALUE_ROOM;
-use oraddr::bounds::LEVELS;
 use oraddr::record::Record;
 use table::line::Row;
 use table_settle::settle::add_path;
@@ -40,14 +39,7 @@ pub fn carry(text: &[u8], gateway: Row, s: &[u8]) -> ToRecord
     if LONGEST_CODED < n {
         return refused(RecordAnswer::TooLongCoded);
     }
-    let path = add_path(
-        Record::empty(),
-        text,
-        gateway.path,
-        gateway.path_end,
-        0,
-        LEVELS,
-    );
+    let path = add_path(text, gateway.path, gateway.path_end);
     let rec = path.record;
     let done = rec.with_dd(b"RFC-822", &value[..n]);
     let carrier = done.record;

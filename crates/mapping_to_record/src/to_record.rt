@@ -76,8 +76,8 @@ fn read_over(rec: Record, n: usize, s: &[u8]) -> Reading
     read_local(rec, n, s)
 }
 
-// Steps 2 to 4 over n settled levels.
-fn read_under(rec: Record, n: usize, s: &[u8], parted: Parted) -> Reading
+// Steps 2 to 4 over n settled levels, by way of an unquoted copy of the local part.
+fn read_unquoted(rec: Record, n: usize, s: &[u8], parted: Parted) -> Reading
     requires { ⌜ length (now s) ≤ longestAddress ⌝ }
     requires { ⌜ parted .at ≤ length (now s) ⌝ }
     ensures { λ r. ⌜ toldReading r ≡ readingResult (readSettled n rec (localAt (now (s .entry)) parted)) ⌝ }
@@ -85,6 +85,19 @@ fn read_under(rec: Record, n: usize, s: &[u8], parted: Parted) -> Reading
     let mut local = [0u8; LONGEST_ADDRESS];
     let m = unquote_local(&mut local, s, parted);
     read_over(rec, n, &local[..m])
+}
+
+// Steps 2 to 4 over n settled levels. A local part without quotes is read where it stands.
+fn read_under(rec: Record, n: usize, s: &[u8], parted: Parted) -> Reading
+    requires { ⌜ length (now s) ≤ longestAddress ⌝ }
+    requires { ⌜ parted .at ≤ length (now s) ⌝ }
+    ensures { λ r. ⌜ toldReading r ≡ readingResult (readSettled n rec (localAt (now (s .entry)) parted)) ⌝ }
+{
+    if parted.quoted {
+        return read_unquoted(rec, n, s, parted);
+    }
+    let at = parted.at;
+    read_over(rec, n, &s[..at])
 }
 
 // Steps 1 to 4, for an address that is not carried whole for its domain or the characters of its local part.

@@ -1,5 +1,4 @@
 // The check of a table: all candidates of all rows are judged, and the first that does not come back is the witness.
-use oraddr::bounds::LEVELS;
 use oraddr::record::Record;
 use soundness::answers::CheckAnswer;
 use soundness::answers::Checked;
@@ -37,7 +36,7 @@ fn judge_row(
     requires { ⌜ RowOf (now text) (now «to_path») (now «to_domain») table row ⌝ }
     ensures { λ r. ⌜ JudgesRow FirstBack (now (text .entry)) (now («to_path» .entry)) (now («to_domain» .entry)) table row r ⌝ }
 {
-    let k = count_levels(text, row.path, row.path_end, LEVELS);
+    let k = count_levels(text, row.path, row.path_end);
     if k == 2 {
         return judge_fresh(text, to_path, to_domain, table, row, k);
     }

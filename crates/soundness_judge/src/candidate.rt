@@ -1,5 +1,4 @@
 // Candidates: the records whose coming back decides about all others. Each has the surname Lee, so none is a carrier.
-use oraddr::bounds::LEVELS;
 use oraddr::bounds::S;
 use oraddr::record::Record;
 use table::line::Row;
@@ -26,7 +25,7 @@ pub fn plain(text: &[u8], row: Row) -> Record
     requires { ⌜ RowInside (now text) row ⌝ }
     ensures { λ r. ⌜ r ≡ candidateOf (rowAt (now (text .entry)) row .path) ⌝ }
 {
-    let done = add_path(Record::empty(), text, row.path, row.path_end, 0, LEVELS);
+    let done = add_path(text, row.path, row.path_end);
     let rec = done.record;
     with_surname(rec)
 }
@@ -38,7 +37,7 @@ pub fn with_token(text: &[u8], row: Row, k: usize, token: &[u8]) -> Record
     requires { ⌜ addLevels 0 (rowAt (now text) row .path) (begun emptyRecord) .number ≡ 0 ⌝ }
     ensures { λ r. ⌜ r ≡ candidateOf (rowAt (now (text .entry)) row .path ++ now (token .entry) ∷ []) ⌝ }
 {
-    let done = add_path(Record::empty(), text, row.path, row.path_end, 0, LEVELS);
+    let done = add_path(text, row.path, row.path_end);
     let rec = done.record;
     let more = add_level(rec, k, token);
     let levels = more.record;

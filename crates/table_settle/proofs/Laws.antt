@@ -1,2 +1,3 @@
+pub mod Nexts
 pub mod Settle
 pub mod Settled

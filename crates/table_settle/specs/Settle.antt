@@ -1,6 +1,6 @@
 -- Document 01, "Address to record" step 1: the record of the levels that a domain settles, or why there is none.
 -- Assumes nothing.
-use Prim.Native.Nat.{ℕ, zero, suc}
+use Prim.Native.Nat.{ℕ, zero, suc, _+_}
 use mathlib.Core.Bool.{cond}
 use mathlib.Core.List.{List, [], _∷_}
 use mathlib.Core.Option.{Option, none, some}
@@ -57,6 +57,11 @@ settledFrom (some ts) =
 unfoldable pub settling : List Row → List ℕ → Settling
 unfolding settledFrom resolveBy sameText partsOf
 settling rows d = settledFrom (resolve rows d)
+
+-- where the level behind each level of a path would start, the first starting at a place
+unfoldable pub nextsFrom : ℕ → List Token → List ℕ
+nextsFrom at [] = []
+nextsFrom at (t ∷ ts) = suc (at + length t) ∷ nextsFrom (suc (at + length t)) ts
 
 -- the parts that a domain has before the part that starts at a place, the rightmost first
 unfoldable pub leftParts : List ℕ → ℕ → List Token

@@ -18,11 +18,10 @@ use Rattle.chars.specs.Write.{front}
 use Rattle.chars.proofs.Laws.Lists.{and-both, and-left, and-right, bool-same, by-test}
 use Rattle.chars.proofs.Laws.Seq.{some-test}
 use Rattle.chars.proofs.Laws.Write.{length-front, take-front}
-use Rattle.oraddr.specs.Add.{addDd, told}
+use Rattle.oraddr.specs.Add.{Outcome, addDd, told}
 use Rattle.oraddr.specs.Attributes.{Dd, noDd}
 use Rattle.oraddr.specs.View.{emptyRecord}
 use Rattle.oraddr.specs.declared.add.Addition.{Addition}
-use Rattle.oraddr.specs.declared.record.Record.{Record}
 use Rattle.mailaddr.specs.Code.{coded, decoded}
 use Rattle.mailaddr.specs.Shape.{Address, longestAddress, shapeOf}
 use Rattle.mailaddr.specs.Answers.{Decoding, fromShape, shapeAnswer, shaping}
@@ -49,13 +48,12 @@ module _ (ls : List Token) (s : List ℕ) where
   carrying-long h = rw (lt-ltb longestCoded (length (coded s)) h)
 
   -- the path added to an empty record, and then the DD
-  pub carrying-done : (e : Record) (p d : Addition) → length (coded s) ≤ longestCoded → e ≡ emptyRecord → told p ≡ addLevels 0 ls (begun e) → told d ≡ addDd (p .record) carrierType (coded s)
+  pub carrying-done : (p d : Addition) → length (coded s) ≤ longestCoded → told p ≡ addLevels 0 ls (begun emptyRecord) → told d ≡ addDd (p .record) carrierType (coded s)
       → mapped (d .record) ≡ carrying ls s
   unfolding carrying carrierOf
-  carrying-done e p d h z a b =
-      let q : p .record ≡ addLevels 0 ls (begun emptyRecord) .record' = ap (λ o. o .record') a ∙ ap (λ (r : Record). addLevels 0 ls (begun r) .record') z in
+  carrying-done p d h a b =
       rw (le-ltb longestCoded (length (coded s)) h)
-      (ap mapped (ap (λ o. o .record') b ∙ ap (λ (r : Record). addDd r carrierType (coded s) .record') q))
+      (ap mapped (ap (λ o. o .record') b ∙ ap (λ (o : Outcome). addDd (o .record') carrierType (coded s) .record') a))
 
 -- what the first bytes of a buffer are, into which a text was put that fits
 pub front-is : (t old : List ℕ) (n room : ℕ) → n ≡ length t → n ≤ room → take n (front (take room t) old) ≡ t

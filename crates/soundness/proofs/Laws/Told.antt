@@ -48,12 +48,12 @@ levels-behind k (g ∷ fs) f o h =
     levels-behind (suc k) fs f (cond (eqb (o .number) 0) (addLevel k g (o .record')) o) h ∙ rw e
 
 -- the levels added to an empty record, and then the token
-pub token-behind : (fs : List Token) (f : Token) (k : ℕ) (e : Record) (a b : Addition) → k ≡ length fs → addLevels 0 fs (begun emptyRecord) .number ≡ 0
-    → e ≡ emptyRecord → told a ≡ addLevels 0 fs (begun e) → told b ≡ addLevel k f (a .«record») → withSurname (b .«record») ≡ candidateOf (fs ++ f ∷ [])
+pub token-behind : (fs : List Token) (f : Token) (k : ℕ) (a b : Addition) → k ≡ length fs → addLevels 0 fs (begun emptyRecord) .number ≡ 0
+    → told a ≡ addLevels 0 fs (begun emptyRecord) → told b ≡ addLevel k f (a .«record») → withSurname (b .«record») ≡ candidateOf (fs ++ f ∷ [])
 unfolding candidateOf
-token-behind fs f k e a b l h z p q =
+token-behind fs f k a b l h p q =
     let n : k ≡ 0 + length fs = omega arith in
-    let r : a .«record» ≡ addLevels 0 fs (begun emptyRecord) .record' = ap (λ o. o .record') p ∙ ap (λ (r : Record). addLevels 0 fs (begun r) .record') z in
+    let r : a .«record» ≡ addLevels 0 fs (begun emptyRecord) .record' = ap (λ o. o .record') p in
     let m : addLevel k f (a .«record») ≡ addLevels 0 (fs ++ f ∷ []) (begun emptyRecord) = rw (r, n) (sym (levels-behind 0 fs f (begun emptyRecord) h)) in
     ap (λ (o : Outcome). withSurname (o .record')) (q ∙ m)
 

@@ -78,9 +78,14 @@ unfolding addLevels
 levels-stop k [] o h = refl
 levels-stop k (f ∷ fs) o h = rw h (levels-stop (suc k) fs o h)
 
-pub levels-next : (k : ℕ) (fs : List Token) (f : Token) (gs : List Token) → fs ≡ f ∷ gs → (r : Record) → addLevels k fs (begun r) ≡ addLevels (k + 1) gs (addLevel k f r)
+levels-next : (k : ℕ) (fs : List Token) (f : Token) (gs : List Token) → fs ≡ f ∷ gs → (r : Record) → addLevels k fs (begun r) ≡ addLevels (k + 1) gs (addLevel k f r)
 unfolding addLevels
 levels-next k fs f gs e r = rw (e, add-one k)
+
+-- a token added to what came of those before it, and then those behind it
+pub levels-added : (k : ℕ) {fs : List Token} (f : Token) (gs : List Token) → fs ≡ f ∷ gs → (a r : Addition) → a .answer ≡ Done → told r ≡ addLevel k f (a .«record»)
+    → addLevels k fs (told a) ≡ addLevels (k + 1) gs (told r)
+levels-added k {fs} f gs e a r d q = ap (addLevels k fs) (told-done a d) ∙ levels-next k fs f gs e (a .«record») ∙ ap (addLevels (k + 1) gs) (sym q)
 
 levels-append : (k : ℕ) (fs gs : List Token) (o : Outcome) → addLevels k (fs ++ gs) o ≡ addLevels (k + length fs) gs (addLevels k fs o)
 unfolding addLevels

@@ -33,9 +33,6 @@ returns c =
     c .refused .ensures
     ∙ carrying-long (fieldsAt (a .text .now) (a .gateway .path) (a .gateway .«path_end»)) (a .s .now) (omega (arith, put .put-coded .ensures .0, c .before .if1 .taken))
 
-empty-requires : tie.Need-empty-requires
-empty-requires c κs = search needs
-
 add-path-requires : tie.Need-add-path-requires
 add-path-requires c κs = search needs
 
@@ -47,7 +44,7 @@ array-share-prefix-value c = search needs
 
 slice-aggregate-with-dd-2 : tie.Need-slice-aggregate-with-dd-2
 slice-aggregate-with-dd-2 c =
-    let put = c .before .before .before .before .before .before .before .put-coded in
+    let put = c .before .before .before .before .before .before .put-coded in
     sym (length-take-le (put .result) (put .last .0) (omega arith))
 
 with-dd-requires : tie.Need-with-dd-requires
@@ -58,15 +55,15 @@ unfolding rowAt bytes toldRecord recordNumber recordBadLine mapped
 returns-2 c =
     let done = c .before in
     let path = done .before .before .before .before in
-    let put = path .before .before .before .before in
+    let put = path .before .before .before in
     let a = put .before .before .before .before .args in
     let n = put .put-coded .result in
-    let l = path .before .before .if1 .left in
+    let l = path .before .if1 .left in
     let e : take n (put .put-coded .last .0) ≡ coded (a .s .now) = ap (take n) (put .put-coded .ensures .1) ∙ front-is (coded (a .s .now)) (replicate longestCoded 0) n longestCoded (put .put-coded .ensures .0) l in
-    carrying-done (fieldsAt (a .text .now) (a .gateway .path) (a .gateway .«path_end»)) (a .s .now) (path .before .empty .result) (path .add-path .result) (done .with-dd .result)
-    (omega (arith, put .put-coded .ensures .0, l)) (path .before .empty .ensures) (path .add-path .ensures)
+    carrying-done (fieldsAt (a .text .now) (a .gateway .path) (a .gateway .«path_end»)) (a .s .now) (path .add-path .result) (done .with-dd .result)
+    (omega (arith, put .put-coded .ensures .0, l)) (path .add-path .ensures)
     (done .with-dd .ensures ∙ ap (addDd (path .add-path .result .«record») carrierType) e)
 
 pub carry-spec : {M : Type 1} → statement M
-carry-spec = tie.close (tie.spec slice-aggregate-put-coded put-coded-requires refused-requires returns empty-requires add-path-requires
+carry-spec = tie.close (tie.spec slice-aggregate-put-coded put-coded-requires refused-requires returns add-path-requires
     slice-aggregate-with-dd array-share-prefix-value slice-aggregate-with-dd-2 with-dd-requires returns-2)

@@ -1,39 +1,26 @@
--- `mapping_to_record::to_record::read_under` meets its contract: the unquoted local part stands at the front of the buffer.
+-- `mapping_to_record::to_record::read_under` meets its contract: a local part without quotes is what stands before the `@`.
 -- Assumes nothing.
-use mathlib.Core.Path.{ap, _∙_}
+use mathlib.Core.Path.{sym, ap, _∙_}
 use mathlib.Core.List.{List}
-use Prim.Native.Nat.{ℕ, _≤_}
-use native.Mathlib.Omega.{arith}
+use Prim.Native.Nat.{ℕ}
 use borrow.Author.Needs.{needs}
-use lib.ListN.{length, length-take}
+use lib.Seq.{length-take-le}
 use Rattle.ortext_read.specs.Answers.{readingResult}
 use Rattle.mapping.specs.Answers.{readSettled}
-use Rattle.chars.proofs.Laws.Write.{wrote-taken}
-use Rattle.mailaddr.proofs.Laws.Shaped.{local-length}
+use Rattle.mailaddr.proofs.Laws.Shape.{local-plain}
 use Rattle.mapping_to_record.proofs.to_record.read_under.Statement.{statement}
 use Rattle.mapping_to_record.proofs.to_record.read_under.Tie as tie
 
--- the local part fits
-fits : (c : tie.After-unquote-local) → c .unquote-local .result ≤ length (c .unquote-local .last .0)
-fits c =
-    let a = c .before .before .before .args in
-    omega (arith, c .unquote-local .ensures .moved, local-length (a .s .now) (a .parted))
-
-array-share-prefix-local : tie.Need-array-share-prefix-local
-array-share-prefix-local c = fits (c .before)
-
 slice-aggregate-read-over : tie.Need-slice-aggregate-read-over
 slice-aggregate-read-over c =
-    let u = c .before .before .unquote-local in
-    omega (arith, fits (c .before .before), length-take (u .result) (u .last .0))
+    let start = c .before .before .before in
+    sym (length-take-le (start .args .parted .at) (start .args .s .now) (start .pre .1))
 
-returns : tie.Need-returns
-returns c =
-    let u = c .before .before .before in
-    let a = u .before .before .before .args in
+returns-2 : tie.Need-returns-2
+returns-2 c =
+    let a = c .before .before .before .before .args in
     c .read-over .ensures
-    ∙ ap (λ (s : List ℕ). readingResult (readSettled (a .n) (a .rec) s)) (wrote-taken (u .unquote-local .ensures) (omega (arith, local-length (a .s .now) (a .parted))))
+    ∙ ap (λ (s : List ℕ). readingResult (readSettled (a .n) (a .rec) s)) (sym (local-plain (a .s .now) (a .parted) (c .before .before .if1 .left)))
 
 pub read-under-spec : {M : Type 1} → statement M
-read-under-spec = tie.close (tie.spec (λ c. search needs) (λ c κs. search needs) array-share-prefix-local slice-aggregate-read-over
-    (λ c κs. search needs) returns)
+read-under-spec = tie.close (tie.spec (λ c κs. search needs) (λ c. search needs) slice-aggregate-read-over (λ c κs. search needs) returns-2)

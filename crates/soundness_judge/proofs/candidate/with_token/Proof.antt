@@ -7,9 +7,6 @@ use borrow.Author.Needs.{needs}
 use Rattle.soundness_judge.proofs.candidate.with_token.Statement.{statement}
 use Rattle.soundness_judge.proofs.candidate.with_token.Tie as tie
 
-empty-requires : tie.Need-empty-requires
-empty-requires c κs = search needs
-
 add-path-requires : tie.Need-add-path-requires
 add-path-requires c κs = search needs
 
@@ -24,12 +21,12 @@ unfolding rowAt
 returns c =
     let more = c .before .before in
     let done = more .before .before in
-    let start = done .before .before .before .before in
+    let start = done .before .before .before in
     let a = start .args in
     c .with-surname .ensures
-    ∙ token-behind (rowAt (a .text .now) (a .row) .path) (a .token .now) (a .k) (done .before .empty .result) (done .add-path .result) (more .add-level .result)
-    (start .pre .1 .0) (start .pre .1 .1) (done .before .empty .ensures) (done .add-path .ensures) (more .add-level .ensures)
+    ∙ token-behind (rowAt (a .text .now) (a .row) .path) (a .token .now) (a .k) (done .add-path .result) (more .add-level .result)
+    (start .pre .1 .0) (start .pre .1 .1) (done .add-path .ensures) (more .add-level .ensures)
 
 pub with-token-spec : {M : Type 1} → statement M
 with-token-spec =
-    tie.close (tie.spec empty-requires add-path-requires add-level-requires with-surname-requires returns)
+    tie.close (tie.spec add-path-requires add-level-requires with-surname-requires returns)
