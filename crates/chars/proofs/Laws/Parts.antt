@@ -51,6 +51,24 @@ join-split sep (x ∷ s) =
     (λ e. rw e (join-more sep [] (split sep s) (split-some sep s) ∙ ap₂ (λ (y : ℕ) (t : List ℕ). y ∷ t) (sym (eqb-true x sep e)) (join-split sep s)))
     (λ e. rw e (join-before sep x (split sep s) ∙ ap (λ (t : List ℕ). x ∷ t) (join-split sep s)))
 
+-- how much parts take up, each with a separator behind it
+unfoldable pub sizes : List (List ℕ) → ℕ
+sizes [] = 0
+sizes (p ∷ ps) = suc (length p + sizes ps)
+
+sizes-before : (x : ℕ) (ps : List (List ℕ)) → nonEmpty ps ≡ true → sizes (before x ps) ≡ suc (sizes ps)
+unfolding before nonEmpty sizes
+sizes-before x [] h = true-not-false true refl (sym h)
+sizes-before x (p ∷ ps) h = omega arith
+
+pub split-sizes : (sep : ℕ) (s : List ℕ) → sizes (split sep s) ≡ suc (length s)
+unfolding split sizes
+split-sizes sep [] = refl
+split-sizes sep (x ∷ s) =
+    by-test (eqb x sep)
+    (λ e. rw e (omega (arith, split-sizes sep s)))
+    (λ e. rw e (omega (arith, split-sizes sep s, sizes-before x (split sep s) (split-some sep s))))
+
 -- no separator stands in the text
 abbrev pub clear : ℕ → List ℕ → Bool
 unfolding all

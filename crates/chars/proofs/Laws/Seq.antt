@@ -128,3 +128,12 @@ module _ (s : List ℕ) (i : ℕ) where
 
   pub beyond : drop 1 (drop (suc i) s) ≡ drop (i + 2) s
   beyond = let q : suc i + 1 ≡ i + 2 = omega arith in drop-drop 1 (suc i) s ∙ rw q
+
+-- the number at a place, where the numbers from there on are known
+pub taken-next : (l : List ℕ) (k n x : ℕ) (xs : List ℕ) → take (suc n) (drop k l) ≡ x ∷ xs → (k < length l) × (getD l k 0 ≡ x) × (take n (drop (k + 1) l) ≡ xs)
+taken-next [] zero n x xs h = let z : _≡_ {A = ℕ} 0 1 = cc in absurd (omega arith)
+taken-next [] (suc k) n x xs h = let z : _≡_ {A = ℕ} 0 1 = cc in absurd (omega arith)
+taken-next (y ∷ l) zero n x xs h = (omega arith, cc, cc)
+taken-next (y ∷ l) (suc k) n x xs h =
+    let r = taken-next l k n x xs h in
+    (omega (arith, r .0), r .1, rw (add-one (suc k)) (rw (add-one k) at (r .2)))

@@ -1,19 +1,17 @@
 -- Laws of where the levels of a path end: a level that is noted, and one that is read where it was noted.
 -- Assumes nothing.
 use mathlib.Core.Path.{_≡_, refl, sym, ap, _∙_}
-use mathlib.Core.Bool.{true}
 use mathlib.Core.List.{List, [], _∷_}
-use Prim.Native.Nat.{ℕ, zero, suc, _+_, _-_, _≤_, _<_}
+use Prim.Native.Nat.{ℕ, suc, _+_, _-_, _≤_, _<_}
 use native.Mathlib.Nat.{add-zero}
-use native.Mathlib.Numerals.{add-one}
 use native.Mathlib.Omega.{arith}
 use borrow.Author.Tests.{leb-false, leb-true}
-use lib.Dec.{eqb, leb}
+use lib.Dec.{leb}
 use lib.ListN.{length, take, drop, getD, set}
-use Rattle.chars.specs.Parts.{before, run, split}
-use Rattle.chars.proofs.Laws.Lists.{by-test, true-not-false}
-use Rattle.chars.proofs.Laws.Parts.{split-some}
-use Rattle.chars.specs.Lists.{nonEmpty}
+use Rattle.chars.specs.Parts.{run}
+use Rattle.chars.proofs.Laws.Lists.{by-test}
+use Rattle.chars.proofs.Laws.Parts.{sizes, split-sizes}
+use Rattle.chars.proofs.Laws.Seq.{taken-next}
 use Rattle.chars.specs.Write.{Wrote}
 use Rattle.chars.proofs.Laws.Write.{wrote-nothing, wrote-one, wrote-taken, wrote-then}
 use Rattle.table.specs.Table.{Token}
@@ -23,24 +21,7 @@ use Rattle.table_lookup.specs.Levels.{LevelFound, levelToken}
 use Rattle.table_lookup.specs.declared.level.LevelKind.{LevelKind}
 use Rattle.table_settle.specs.Settle.{nextsFrom}
 
--- ---- how much parts take up, each with a separator behind it
-
-sizes : List (List ℕ) → ℕ
-sizes [] = 0
-sizes (p ∷ ps) = suc (length p + sizes ps)
-
-sizes-before : (x : ℕ) (ps : List (List ℕ)) → nonEmpty ps ≡ true → sizes (before x ps) ≡ suc (sizes ps)
-unfolding before nonEmpty sizes
-sizes-before x [] h = true-not-false true refl (sym h)
-sizes-before x (p ∷ ps) h = omega arith
-
-split-sizes : (sep : ℕ) (s : List ℕ) → sizes (split sep s) ≡ suc (length s)
-unfolding split sizes
-split-sizes sep [] = refl
-split-sizes sep (x ∷ s) =
-    by-test (eqb x sep)
-    (λ e. rw e (omega (arith, split-sizes sep s)))
-    (λ e. rw e (omega (arith, split-sizes sep s, sizes-before x (split sep s) (split-some sep s))))
+-- ---- how much the levels take up, each with a tab behind it
 
 fields-sizes : (s : List ℕ) (at end : ℕ) → at ≤ end + 1 → end ≤ length s → at + sizes (fieldsAt s at end) ≡ end + 1
 unfolding sizes
@@ -80,15 +61,6 @@ noted-taken {o} {n} {j} at fs w h =
     rw e (wrote-taken w (omega arith))
 
 -- ---- the levels are read
-
--- the number at a place, where the numbers from there on are known
-taken-next : (l : List ℕ) (k n x : ℕ) (xs : List ℕ) → take (suc n) (drop k l) ≡ x ∷ xs → (k < length l) × (getD l k 0 ≡ x) × (take n (drop (k + 1) l) ≡ xs)
-taken-next [] zero n x xs h = let z : _≡_ {A = ℕ} 0 1 = cc in absurd (omega arith)
-taken-next [] (suc k) n x xs h = let z : _≡_ {A = ℕ} 0 1 = cc in absurd (omega arith)
-taken-next (y ∷ l) zero n x xs h = (omega arith, cc, cc)
-taken-next (y ∷ l) (suc k) n x xs h =
-    let r = taken-next l k n x xs h in
-    (omega (arith, r .0), r .1, rw (add-one (suc k)) (rw (add-one k) at (r .2)))
 
 -- the levels from a place on end as the numbers from k on say
 abbrev pub Noted : List ℕ → ℕ → ℕ → List ℕ → ℕ → Type 0
