@@ -20,7 +20,7 @@ ENDINGS = (".rt", ".antt", ".py", ".rs", ".h", ".c", ".md", ".tsv", ".txt", ".to
 WORDS = set(
     """
     Ann Ann_Lee Lee RFC-822 JNT-Mail PORTNET SURVEY TOW brack tow gmt GMT EST
-    cargo python3 valgrind requires ensures search spec read_full i32 u64 usize bool stdin stdout
+    cargo python3 valgrind pv parallel requires ensures search spec read_full i32 u64 usize bool stdin stdout
     """.split()
 )
 
