@@ -229,7 +229,7 @@ tagged-length l tag s f =
     (λ e. by-test (eqb tag 79) (λ g. rw (e, g) (text-length l s f)) (λ g. rw (e, g) (refused-length 1)))
 
 -- room for any answer
-answer-length : (l : lines.TableOutcome) (s : List ℕ) → FormedBy l → length (lineAnswer l s) ≤ answerRoom
+pub answer-length : (l : lines.TableOutcome) (s : List ℕ) → FormedBy l → length (lineAnswer l s) ≤ answerRoom
 unfolding lineAnswer
 answer-length l s f =
     by-test (ltb longestLine (length s))

@@ -60,9 +60,10 @@ quote-front-requires : tie.Need-quote-front-requires
 quote-front-requires c κs =
     let w = c .before .before .before in
     let start = w .before .before .before .before .before .before in
-    let l = wrote-length (w .write-local .ensures) in
-    ((omega (arith, local-fits start, w .write-local .ensures .moved), omega (arith, local-fits start, w .write-local .ensures .moved, l, start .pre .0)),
-    rw (local-text w) (omega (arith, quoted-fits start, l, start .pre .0)))
+    let l = wrote-length (w .write-local .ensures) in (
+      (omega (arith, local-fits start, w .write-local .ensures .moved), omega (arith, local-fits start, w .write-local .ensures .moved, l, start .pre .0)),
+      rw (local-text w) (omega (arith, quoted-fits start, l, start .pre .0)),
+    )
 
 -- and then the quoted one over it
 sent : (c : tie.After-quote-front) → let start = c .before .before .before .before .before .before .before .before .before .before in
