@@ -27,9 +27,6 @@ module _ (c : tie.After-answer-line) where
   part : let a = c .before .before .before .before .before .before .before .before .args in length (take (a .at + 2563 - a .at) (drop (a .at) (a .out .now))) ≡ 2563
   part = search needs
 
-add-t11 : tie.Need-add-t11
-add-t11 c = let w = c .before .before in omega (arith, fits w, room w, w .answer-line .ensures .moved)
-
 returns-2 : tie.Need-returns-2
 returns-2 c =
     let w = c .before .before in
@@ -39,4 +36,6 @@ returns-2 c =
 
 pub place-answer-spec : {M : Type 1} → statement M
 place-answer-spec = tie.close (tie.spec (λ c. search needs) (λ c κs. search needs) (λ c. search needs) (λ c. search needs) (λ c. search needs)
-    (λ c. search needs) (λ c. search needs) (λ c. search needs) (λ c κs. search needs) add-t11 (λ c. search needs) returns-2)
+    (λ c. search needs) (λ c. search needs) (λ c. search needs) (λ c κs. search needs)
+    (λ c. omega (arith, fits (c .before .before), room (c .before .before), c .before .before .answer-line .ensures .moved)) (λ c. search needs)
+    returns-2)
