@@ -27,7 +27,7 @@ const TEXT_ROOM: usize = 1735;
 fn put_text(dst: &mut [u8], rec: Record) -> usize
     requires { ⌜ length (now dst) ≡ longestText ⌝ }
     requires { ⌜ canonicalRecord rec ≡ true ⌝ }
-    ensures { λ r. ⌜ Fronted (some (recordText keys (view rec))) r (now (dst .exit)) ⌝ }
+    ensures { λ r. ⌜ Fronted (some (recordText keys (view rec))) (now (dst .entry)) r (now (dst .exit)) ⌝ }
 {
     write_text(dst, 0, rec, 0)
 }

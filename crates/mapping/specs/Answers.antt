@@ -6,6 +6,7 @@ use mathlib.Core.List.{List, []}
 use mathlib.Core.Option.{Option, none, some}
 use Prim.Native.Nat.{ℕ, _+_, _≤_}
 use lib.ListN.{length, take, drop}
+use Rattle.chars.specs.Write.{Wrote}
 use Rattle.ortext_read.specs.Apply as apply
 use Rattle.oraddr.specs.Attributes.{Attributes, levels}
 use Rattle.oraddr.specs.Canonical.{canonicalRecord}
@@ -105,18 +106,23 @@ isGood (read r) = canonicalRecord r
 abbrev pub recordParted : Table → List ℕ → Parted → RecordResult
 recordParted t s p = recordBy t s (shaped (addressAt s p))
 
--- room for any address
+-- room for any local part, and for any address
+abbrev pub localRoom : ℕ
+localRoom = 1792
+
 abbrev pub addressRoom : ℕ
 addressRoom = 2560
 
--- A text at the front of a buffer, or that there is none.
-pub record Fronted (o : Option (List ℕ)) (n : ℕ) (new : List ℕ) : Type 0 where
+-- A text at the front of a buffer, which behind it is as before.
+pub record Fronted (o : Option (List ℕ)) (old : List ℕ) (n : ℕ) (new : List ℕ) : Type 0 where
   pub told : o ≡ some (take n new)
   pub fits : n ≤ length new
+  pub wrote : Wrote old 0 (take n new) n new
 
-abbrev pub Writing : Option (List ℕ) → Written → List ℕ → Type 0
-Writing o (Length n) new = Fronted o n new
-Writing o NoAddress new = o ≡ none
+-- A text written to the front of a buffer; where there is none, the buffer is as before.
+abbrev pub Writing : Option (List ℕ) → List ℕ → Written → List ℕ → Type 0
+Writing o old (Length n) new = Fronted o old n new
+Writing o old NoAddress new = (o ≡ none) × (new ≡ old)
 
 -- A route is the plan of a record with these levels: its row's domain, with the levels behind the first `own` in front.
 pub record Routed (s : List ℕ) (ls : List Token) (p : Plan) (r : Route) : Type 0 where

@@ -1,10 +1,12 @@
 // Carriers: the test for a record that carries an address, and the address out of it.
 use chars::case::same_text;
+use chars::write::put;
 use mailaddr::code::Decoded;
 use mailaddr::code::decode;
 use mailaddr::shape::ShapeRead;
 use mailaddr::shape::read_shape;
 use mapping::answers::Written;
+use oraddr::bounds::DD_VALUE_ROOM;
 use oraddr::bounds::LEVELS;
 use oraddr::bounds::OWN_LEVELS;
 use oraddr::bounds::SINGLES;
@@ -16,12 +18,11 @@ use table::line::Row;
 use table_lookup::lookup::match_path;
 ghost use mathlib.Core.Path.{_≡_};
 ghost use mathlib.Core.Option.{some};
-ghost use Prim.Native.Nat.{_<_, _≤_};
-ghost use lib.ListN.{length, take};
+ghost use Prim.Native.Nat.{_≤_};
+ghost use lib.ListN.{length};
 ghost use Rattle.chars.specs.Case.{sameText};
 ghost use Rattle.oraddr.specs.View.{ddValueView, ddsView, kindView, view};
 ghost use Rattle.mailaddr.specs.Code.{decoded};
-ghost use Rattle.mailaddr.specs.Shape.{longestAddress};
 ghost use Rattle.table_lookup.specs.Looked.{Ended, levelTokens};
 ghost use Rattle.table.specs.Rows.{RowInside, rowAt};
 ghost use Rattle.mapping.specs.Answers.{Writing};
@@ -92,35 +93,38 @@ pub fn is_carrier(text: &[u8], gateway: Row, rec: Record, flat: &[u8], ends: &[u
     is_one_carrier(dds)
 }
 
-// Writes the address that a value carries to the front of `dst`.
-fn write_value(dst: &mut [u8], value: DdValue) -> Written
-    requires { ⌜ longestCoded ≤ length (now dst) ⌝ }
-    ensures { λ r. ⌜ Writing (inShape (decoded (ddValueView value))) r (now (dst .exit)) ⌝ }
+// Writes `s` to the front of `dst`, if it is an address of accepted shape.
+fn put_address(dst: &mut [u8], s: &[u8]) -> Written
+    requires { ⌜ length (now s) ≤ longestCoded ⌝ }
+    requires { ⌜ length (now s) ≤ length (now dst) ⌝ }
+    ensures { λ r. ⌜ Writing (inShape (some (now (s .entry)))) (now (dst .entry)) r (now (dst .exit)) ⌝ }
 {
-    let m = value.size();
-    let bytes = value.bytes;
-    match decode(dst, &bytes[..m]) {
-        Decoded::Length(n) => as_address(dst, n),
-        Decoded::Undecoded => Written::NoAddress,
+    match read_shape(s) {
+        ShapeRead::Address(_) => Written::Length(put(dst, 0, s)),
+        ShapeRead::TooLong => Written::NoAddress,
+        ShapeRead::NoShape => Written::NoAddress,
     }
 }
 
-// The first n bytes of `dst`, if they are an address of accepted shape.
-fn as_address(dst: &[u8], n: usize) -> Written
-    requires { ⌜ (n ≤ length (now dst)) × (n ≤ longestAddress) ⌝ }
-    ensures { λ r. ⌜ Writing (inShape (some (take n (now (dst .entry))))) r (now (dst .entry)) ⌝ }
+// Writes the address that a value carries to the front of `dst`. It is decoded apart, so that a value with no address in it leaves `dst` as
+// it was.
+fn write_value(dst: &mut [u8], value: DdValue) -> Written
+    requires { ⌜ longestCoded ≤ length (now dst) ⌝ }
+    ensures { λ r. ⌜ Writing (inShape (decoded (ddValueView value))) (now (dst .entry)) r (now (dst .exit)) ⌝ }
 {
-    match read_shape(&dst[..n]) {
-        ShapeRead::Address(_) => Written::Length(n),
-        ShapeRead::TooLong => Written::NoAddress,
-        ShapeRead::NoShape => Written::NoAddress,
+    let m = value.size();
+    let bytes = value.bytes;
+    let mut address = [0u8; DD_VALUE_ROOM];
+    match decode(&mut address, &bytes[..m]) {
+        Decoded::Length(n) => put_address(dst, &address[..n]),
+        Decoded::Undecoded => Written::NoAddress,
     }
 }
 
 // Writes the address that a record carries to the front of `dst`.
 pub fn write_carried(dst: &mut [u8], dds: Dds) -> Written
     requires { ⌜ longestCoded ≤ length (now dst) ⌝ }
-    ensures { λ r. ⌜ Writing (carriedAddress (ddsView dds)) r (now (dst .exit)) ⌝ }
+    ensures { λ r. ⌜ Writing (carriedAddress (ddsView dds)) (now (dst .entry)) r (now (dst .exit)) ⌝ }
 {
     let item = dds.item(0);
     write_value(dst, item.value)

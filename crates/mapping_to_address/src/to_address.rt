@@ -4,6 +4,7 @@ use crate::carrier::write_carried;
 use crate::levels::ENDS_ROOM;
 use crate::levels::LEVELS_ROOM;
 use crate::levels::flatten;
+use chars::parts::is_atoms;
 use chars::write::put;
 use mailaddr::shape::put_local;
 use mapping::answers::AddressAnswer;
@@ -34,13 +35,14 @@ ghost use Rattle.chars.specs.Write.{Wrote};
 ghost use Rattle.oraddr.specs.Attributes.{levels};
 ghost use Rattle.oraddr.specs.Canonical.{canonicalRecord};
 ghost use Rattle.oraddr.specs.View.{view};
+ghost use Rattle.mailaddr.specs.Shape.{quotedLocal};
 ghost use Rattle.table_lookup.specs.Looked.{Ended, Laid, levelTokens};
 ghost use Rattle.table_lookup.specs.Lookup.{begins};
 ghost use Rattle.table.specs.Rows.{RowInside, rowAt};
 ghost use Rattle.table.specs.declared.rows.Key.the-variants.{Path};
 ghost use Rattle.table_order.specs.Place.{Sorted};
 ghost use Rattle.table_load.specs.Load.{KeptBy, loadAnswer};
-ghost use Rattle.mapping.specs.Answers.{RoutedBy, RoutedUnder, Writing, addressRoom, outward, routedText, toldAddress};
+ghost use Rattle.mapping.specs.Answers.{RoutedBy, RoutedUnder, Writing, addressRoom, localRoom, outward, routedText, toldAddress};
 ghost use Rattle.mapping.specs.Flat.{Flat, fronts};
 ghost use Rattle.mapping.specs.ToAddress.{addressOf, recordToAddress, toAddress, toAddressBy};
 ghost use Rattle.oraddr.specs.Bounds.{levelCount};
@@ -102,6 +104,30 @@ fn put_fronts(dst: &mut [u8], at: usize, flat: &[u8], ends: &[usize], k: usize, 
     next
 }
 
+// Quotes the local part of n bytes at the front of `dst`, by way of a copy.
+fn quote_apart(dst: &mut [u8], n: usize) -> usize
+    requires { ⌜ (n ≤ localRoom) × (n ≤ length (now dst)) ⌝ }
+    requires { ⌜ length (quotedLocal (take n (now dst))) ≤ length (now dst) ⌝ }
+    ensures { λ r. ⌜ Wrote (now (dst .entry)) 0 (quotedLocal (take n (now (dst .entry)))) r (now (dst .exit)) ⌝ }
+{
+    let mut local = [0u8; LOCAL_ROOM];
+    let m = put(&mut local, 0, &dst[..n]);
+    put_local(dst, 0, &local[..m])
+}
+
+// Quotes the local part of n bytes at the front of `dst` where it is not atoms joined by dots. One that is, as most are, stays as it
+// stands.
+fn quote_front(dst: &mut [u8], n: usize) -> usize
+    requires { ⌜ (n ≤ localRoom) × (n ≤ length (now dst)) ⌝ }
+    requires { ⌜ length (quotedLocal (take n (now dst))) ≤ length (now dst) ⌝ }
+    ensures { λ r. ⌜ Wrote (now (dst .entry)) 0 (quotedLocal (take n (now (dst .entry)))) r (now (dst .exit)) ⌝ }
+{
+    if is_atoms(&dst[..n]) {
+        return n;
+    }
+    quote_apart(dst, n)
+}
+
 // Writes the address of a record that goes out by a route to the front of `dst`.
 fn write_routed(
     dst: &mut [u8],
@@ -120,9 +146,8 @@ fn write_routed(
 {
     let own = route.own;
     let more = route.more;
-    let mut local = [0u8; LOCAL_ROOM];
-    let m = write_local(&mut local, rec, own + more);
-    let at = put_local(dst, 0, &local[..m]);
+    let m = write_local(dst, rec, own + more);
+    let at = quote_front(dst, m);
     dst[at] = b'@';
     let from = put_fronts(dst, at + 1, flat, ends, own, more);
     let row = route.row;
@@ -143,7 +168,7 @@ pub fn write_address(
     requires { ⌜ RowInside (now text) (table .gateway) ⌝ }
     requires { ⌜ Sorted Path (now text) (now «to_domain») (table .«to_domain») ⌝ }
     requires { ⌜ canonicalRecord rec ≡ true ⌝ }
-    ensures { λ r. ⌜ Writing (addressOf (outward (now (text .entry)) (now («to_domain» .entry)) table) (view rec)) r (now (dst .exit)) ⌝ }
+    ensures { λ r. ⌜ Writing (addressOf (outward (now (text .entry)) (now («to_domain» .entry)) table) (view rec)) (now (dst .entry)) r (now (dst .exit)) ⌝ }
 {
     let mut flat = [0u8; LEVELS_ROOM];
     let mut ends = [0usize; ENDS_ROOM];

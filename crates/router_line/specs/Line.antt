@@ -25,6 +25,10 @@ longestLine = 4096
 abbrev pub answerRoom : ℕ
 answerRoom = 2563
 
+-- where the other form stands in an answer: behind the number and a tab
+abbrev pub textAt : ℕ
+textAt = 2
+
 -- "It prints the number, and on 0 a tab and the other form."
 unfoldable pub doneLine : List ℕ → List ℕ
 doneLine s = 48 ∷ 9 ∷ s ++ (10 ∷ [])

@@ -15,7 +15,7 @@ use table::load::TableRead;
 ghost use mathlib.Core.Path.{_≡_};
 ghost use mathlib.Core.Bool.{true};
 ghost use Prim.Native.Nat.{_+_, _<_, _≤_};
-ghost use lib.ListN.{length};
+ghost use lib.ListN.{drop, length, take};
 ghost use Rattle.chars.specs.Write.{Wrote};
 ghost use Rattle.oraddr.specs.Canonical.{canonicalRecord};
 ghost use Rattle.oraddr.specs.View.{view};
@@ -30,13 +30,16 @@ ghost use Rattle.table.specs.declared.rows.Key.the-variants.{Path};
 ghost use Rattle.table_order.specs.Place.{Sorted};
 ghost use Rattle.mapping.specs.Answers.{outward};
 ghost use Rattle.mapping.specs.ToRecord.{toRecord, toRecordBy};
-ghost use Rattle.router_line.specs.Line.{answerRoom, doneLine, lineAnswer, readLine, recordLine, refusedLine, taggedLine, textLine};
+ghost use Rattle.router_line.specs.Line.{answerRoom, doneLine, lineAnswer, readLine, recordLine, refusedLine, taggedLine, textAt, textLine};
 ghost use Rattle.router_line.specs.Ready.{Placed};
 
 // The longest line, and room for any answer.
 pub const LONGEST_LINE: usize = 4096;
 
 pub const ANSWER_ROOM: usize = 2563;
+
+// Where the other form stands in an answer: behind the number and a tab.
+const TEXT_AT: usize = 2;
 
 // Where the next answer goes, or that this one does not fit.
 pub enum Placing {
@@ -55,16 +58,15 @@ fn put_refusal(dst: &mut [u8], number: usize) -> usize
     2
 }
 
-// An address that was written.
-fn put_done(dst: &mut [u8], s: &[u8]) -> usize
-    requires { ⌜ length (now s) + 3 ≤ length (now dst) ⌝ }
-    ensures { λ r. ⌜ Wrote (now (dst .entry)) 0 (doneLine (now (s .entry))) r (now (dst .exit)) ⌝ }
+// An address of n bytes, which stands in its place already: the number and the tab before it, and the LF.
+fn put_done(dst: &mut [u8], n: usize) -> usize
+    requires { ⌜ n + 3 ≤ length (now dst) ⌝ }
+    ensures { λ r. ⌜ Wrote (now (dst .entry)) 0 (doneLine (take n (drop textAt (now (dst .entry))))) r (now (dst .exit)) ⌝ }
 {
     dst[0] = b'0';
     dst[1] = b'\t';
-    let end = put(dst, 2, s);
-    dst[end] = b'\n';
-    end + 1
+    dst[TEXT_AT + n] = b'\n';
+    n + 3
 }
 
 // A record's text.
@@ -75,7 +77,7 @@ fn put_record(dst: &mut [u8], rec: Record) -> usize
 {
     dst[0] = b'0';
     dst[1] = b'\t';
-    let end = write_text(dst, 2, rec, 0);
+    let end = write_text(dst, TEXT_AT, rec, 0);
     dst[end] = b'\n';
     end + 1
 }
@@ -141,9 +143,9 @@ fn send_record(
     if !is_canonical(rec) {
         return put_refusal(dst, 4);
     }
-    let mut address = [0u8; ADDRESS_ROOM];
-    match write_address(&mut address, text, to_domain, table, rec) {
-        Written::Length(n) => put_done(dst, &address[..n]),
+    let end = TEXT_AT + ADDRESS_ROOM;
+    match write_address(&mut dst[TEXT_AT..end], text, to_domain, table, rec) {
+        Written::Length(n) => put_done(dst, n),
         Written::NoAddress => put_refusal(dst, 5),
     }
 }
@@ -249,7 +251,7 @@ fn place(out: &mut [u8], at: usize, s: &[u8]) -> Placing
 
 // A line's answer at a place of the output, if it fits. It is put together apart from the output, so that one that does not fit leaves
 // that as it was.
-pub fn place_answer(
+fn place_apart(
     text: &[u8],
     to_path: &[usize],
     to_domain: &[usize],
@@ -266,4 +268,27 @@ pub fn place_answer(
     let mut answer = [0u8; ANSWER_ROOM];
     let n = answer_line(text, to_path, to_domain, read, line, &mut answer);
     place(out, at, &answer[..n])
+}
+
+// A line's answer at a place of the output, if it fits: written straight to its place where there is room for any answer.
+pub fn place_answer(
+    text: &[u8],
+    to_path: &[usize],
+    to_domain: &[usize],
+    read: TableRead,
+    line: &[u8],
+    out: &mut [u8],
+    at: usize,
+) -> Placing
+    requires { ⌜ Ready (now text) (now «to_path») (now «to_domain») read ⌝ }
+    requires { ⌜ at ≤ length (now out) ⌝ }
+    ensures { λ r. ⌜ Placed (now (out .entry)) at
+        (lineAnswer (loadAnswer (now (text .entry)) (now («to_path» .entry)) (now («to_domain» .entry)) read) (now (line .entry))) r (now (out .exit)) ⌝ }
+{
+    if out.len() - at < ANSWER_ROOM {
+        return place_apart(text, to_path, to_domain, read, line, out, at);
+    }
+    let end = at + ANSWER_ROOM;
+    let n = answer_line(text, to_path, to_domain, read, line, &mut out[at..end]);
+    Placing::Next(at + n)
 }

@@ -1,8 +1,8 @@
 -- Laws of how a record goes out: the route under a row and at the gateway, how long its address is, and the address that was written.
 -- Assumes nothing.
-use mathlib.Core.Path.{_≡_, refl, sym, ap, _∙_}
+use mathlib.Core.Path.{_≡_, refl, sym, ap, subst, _∙_}
 use mathlib.Core.Bool.{true, false, cond}
-use mathlib.Core.List.{List, _∷_, _++_}
+use mathlib.Core.List.{List, [], _∷_, _++_}
 use mathlib.Core.Option.{Option, none, some}
 use Prim.Native.Nat.{ℕ, _+_, _≤_}
 use native.Mathlib.Omega.{arith}
@@ -21,8 +21,9 @@ use Rattle.oraddr.proofs.Laws.Canonical.{canonical-view}
 use Rattle.ortext_segments.specs.Keys.{keys}
 use Rattle.ortext_write.specs.Write.{localText, remaining}
 use Rattle.ortext_write.proofs.Laws.Write.{local-bound, text-class}
-use Rattle.mailaddr.specs.Shape.{addressText, quotedLocal}
-use Rattle.mailaddr.proofs.Laws.Shape.{length-quoted-quotable, quoted-atoms}
+use Rattle.mailaddr.specs.Shape.{addressText, escaped, quotedLocal}
+use Rattle.mailaddr.proofs.Laws.Closing.{escaped-longer}
+use Rattle.mailaddr.proofs.Laws.Shape.{length-quoted-quotable, quoted-atoms, quoted-other}
 use Rattle.table.specs.Table.{Row, Table, Token}
 use Rattle.table_load.specs.Load.{loadAnswer}
 use Rattle.table_lookup.specs.Lookup.{byPath, extension, look}
@@ -83,6 +84,13 @@ module _ (s rs : List ℕ) (t : load.Loaded.Loaded) (ls : List Token) where
 
 -- ---- how long its address is
 
+-- quoting makes no local part shorter
+pub quoted-longer : (u : List ℕ) → length u ≤ length (quotedLocal u)
+quoted-longer u =
+    by-test (isAtoms u)
+    (λ e. rw (quoted-atoms u e) (omega arith))
+    (λ e. rw (quoted-other u e) (omega (arith, length-append (escaped u) (34 ∷ []), escaped-longer u)))
+
 pub length-local : (r : Record) → canonicalRecord r ≡ true → (n : ℕ) → length (quotedLocal (localText keys (remaining n (view r)))) ≤ 1737
 unfolding isQuotable
 length-local r h n =
@@ -110,8 +118,10 @@ length-routed r s flat ends route h f i few =
 
 -- ---- the address that was written
 
-pub wrote-fronted : {o n t : List ℕ} {j : ℕ} → Wrote o 0 t j n → length t ≤ length o → Fronted (some t) j n
-wrote-fronted w h = record { told = ap some (sym (wrote-taken w h)); fits = omega (arith, w .moved, wrote-length w) }
+pub wrote-fronted : {o n t : List ℕ} {j : ℕ} → Wrote o 0 t j n → length t ≤ length o → Fronted (some t) o j n
+wrote-fronted {o} {n} {t} {j} w h =
+    let e : t ≡ take j n = sym (wrote-taken w h) in
+    record { told = ap some e; fits = omega (arith, w .moved, wrote-length w); wrote = subst (λ (s : List ℕ). Wrote o 0 s j n) e w }
 
 module _ (t : Table) (a : Attributes) where
   pub address-carried : isCarrier t a ≡ true → addressOf t a ≡ carriedAddress (a .dds)

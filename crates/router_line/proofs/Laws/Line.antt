@@ -2,15 +2,17 @@
 -- Assumes nothing.
 use mathlib.Core.Path.{_≡_, refl, sym, ap, subst, _∙_}
 use mathlib.Core.Bool.{true, false, cond}
-use mathlib.Core.List.{List, [], _∷_}
+use mathlib.Core.List.{List, [], _∷_, _++_}
 use mathlib.Core.Option.{Option, none, some}
 use Prim.Native.Nat.{ℕ, _≤_, _<_}
 use native.Mathlib.Omega.{arith}
 use borrow.Author.Tests.{eqb-true, le-ltb, lt-ltb, ne-eqb}
 use lib.Dec.{eqb, ltb}
-use lib.ListN.{length, getD, drop, length-append}
+use lib.ListN.{length, getD, take, drop, length-append}
+use lib.Seq.{drop-at, length-take-le, take-append-le}
 use Rattle.chars.specs.Write.{Wrote}
 use Rattle.chars.proofs.Laws.Lists.{by-test}
+use Rattle.chars.proofs.Laws.Write.{wrote-length, wrote-over, wrote-within}
 use Rattle.oraddr.specs.Canonical.{canonicalRecord}
 use Rattle.oraddr.specs.View.{emptyRecord, view}
 use Rattle.oraddr.specs.declared.record.Record.{Record}
@@ -27,10 +29,12 @@ use Rattle.ortext_write.proofs.Laws.Write.{text-bound}
 use Rattle.table.specs.Formed.{Formed}
 use Rattle.table.specs.Lines as lines
 use Rattle.table.specs.Lines.{malformed, wellFormed}
-use Rattle.table_load.specs.Load.{FormedBy}
+use Rattle.table_load.specs.Load.{FormedBy, Ready, loadAnswer}
+use Rattle.table_load.proofs.Laws.Ready.{ready-formed}
 use Rattle.table.specs.Rows.{tableAt}
 use Rattle.table.specs.Table.{Table}
 use Rattle.table.specs.declared.load.Loaded.{Loaded}
+use Rattle.table.specs.declared.load.TableRead.{TableRead}
 use Rattle.table.specs.declared.load.TableRead.the-variants.{Malformed}
 use Rattle.mapping.specs.Answers.{outward, recordNumber, toldRecord}
 use Rattle.mapping.specs.Results.{RecordResult, malformedRecord}
@@ -42,11 +46,22 @@ use Rattle.mapping.specs.declared.answers.ToRecord.{ToRecord}
 use Rattle.mapping.proofs.Laws.Returned.{done-canonical}
 use Rattle.mapping.proofs.Laws.Route.{address-under}
 use Rattle.mapping.proofs.Laws.Short.{address-short}
-use Rattle.router_line.specs.Line.{answerRoom, doneLine, lineAnswer, longestLine, readLine, recordLine, refusedLine, sentLine, taggedLine, textLine}
+use Rattle.router_line.specs.Line.{answerRoom, doneLine, lineAnswer, longestLine, readLine, recordLine, refusedLine, sentLine, taggedLine, textAt, textLine}
 
 -- a write of a text is one of an equal text
 pub wrote-as : {o n : List ℕ} {i j : ℕ} (s t : List ℕ) → s ≡ t → Wrote o i s j n → Wrote o i t j n
 wrote-as {o} {n} {i} {j} s t e w = subst (λ (u : List ℕ). Wrote o i u j n) e w
+
+-- an address that was written to the front of a part, behind the place of its number and tab, and the line put together over it
+pub done-over : (k : ℕ) {o p new : List ℕ} {n j : ℕ} → Wrote (take k (drop textAt o)) 0 (take n p) n p → n ≤ length p → textAt ≤ length o
+    → let q = take textAt o ++ (p ++ drop k (drop textAt o)) in Wrote q 0 (doneLine (take n (drop textAt q))) j new → Wrote o 0 (doneLine (take n p)) j new
+unfolding doneLine
+done-over k {o} {p} {new} {n} {j} w h room v =
+    let rest = drop k (drop textAt o) in
+    let e : take n (drop textAt (take textAt o ++ (p ++ rest))) ≡ take n p =
+    ap (take n) (drop-at (take textAt o) (p ++ rest) textAt (length-take-le textAt o room)) ∙ take-append-le n p rest h in
+    wrote-over (wrote-within textAt k w (omega (arith, wrote-length w, length-take-le n p h)) room) (rw e at v) (omega arith)
+    (omega (arith, length-append (take n p) (10 ∷ [])))
 
 -- ---- an address
 
@@ -223,3 +238,6 @@ answer-length l s f =
     by-test (eqb (getD s 1 0) 9)
     (λ g. rw (e, g) (tagged-length l (getD s 0 0) (drop 2 s) f))
     (λ g. rw (e, g) (refused-length 1)))
+
+pub ready-length : (s ds rs : List ℕ) (r : TableRead) (x : List ℕ) → Ready s ds rs r → length (lineAnswer (loadAnswer s ds rs r) x) ≤ answerRoom
+ready-length s ds rs r x h = answer-length (loadAnswer s ds rs r) x (ready-formed s ds rs r h)

@@ -1,13 +1,11 @@
 -- `gateway_text::write::put_text` meets its contract.
 -- Assumes nothing.
-use mathlib.Core.Path.{sym, ap}
-use mathlib.Core.Option.{some}
 use native.Mathlib.Omega.{arith}
-use Rattle.chars.proofs.Laws.Write.{wrote-length, wrote-taken}
 use Rattle.oraddr.specs.View.{view}
 use Rattle.oraddr.proofs.Laws.Canonical.{canonical-view}
 use Rattle.ortext_write.specs.Write.{remaining}
 use Rattle.ortext_write.proofs.Laws.Write.{text-bound}
+use Rattle.mapping.proofs.Laws.Route.{wrote-fronted}
 use borrow.Author.Needs.{needs}
 use Rattle.gateway_text.proofs.write.put_text.Statement.{statement}
 use Rattle.gateway_text.proofs.write.put_text.Tie as tie
@@ -21,13 +19,8 @@ write-text-requires c κs =
 returns : tie.Need-returns
 unfolding remaining
 returns c =
-    let w = c .before .before .write-text in
     let s = c .before .before .before .before .before in
-    let most = text-bound (view (s .args .rec)) (canonical-view (s .args .rec) (s .pre .1)) 0 in
-    record {
-      told = ap some (sym (wrote-taken (w .ensures) (omega (arith, most, s .pre .0))));
-      fits = omega (arith, w .ensures .moved, wrote-length (w .ensures), most, s .pre .0);
-    }
+    wrote-fronted (c .before .before .write-text .ensures) (omega (arith, text-bound (view (s .args .rec)) (canonical-view (s .args .rec) (s .pre .1)) 0, s .pre .0))
 
 pub put-text-spec : {M : Type 1} → statement M
 put-text-spec = tie.close (tie.spec write-text-requires (λ c. search needs) returns)

@@ -1,10 +1,11 @@
--- `mapping_to_address::carrier::write_value` meets its contract: the part of the room is the value, and what it decodes to, no longer than the
--- value, stands at the front of the buffer.
+-- `mapping_to_address::carrier::write_value` meets its contract: the part of the room is the value, and what it decodes to is no longer.
 -- Assumes nothing.
 use borrow.Author.Needs.{needs}
-use mathlib.Core.Path.{_≡_}
+use mathlib.Core.Path.{_≡_, refl, sym}
+use Prim.Native.Nat.{_≤_}
 use native.Mathlib.Omega.{arith}
-use lib.ListN.{length, length-take}
+use lib.ListN.{length, length-take, replicate, take}
+use lib.Seq.{length-take-le}
 use Rattle.chars.proofs.Laws.Seq.{part-is, part-length, part-within}
 use Rattle.oraddr.specs.View.{ddValueView}
 use Rattle.mailaddr.specs.Answers.{Decoding}
@@ -21,9 +22,9 @@ array-share-prefix-bytes c =
     let value = size .before .before .args .value in
     part-within (value .len) (value .bytes) (size .size .result) (size .size .ensures)
 
-slice-aggregate-decode : tie.Need-slice-aggregate-decode
+slice-aggregate-decode-2 : tie.Need-slice-aggregate-decode-2
 unfolding ddValueView
-slice-aggregate-decode c =
+slice-aggregate-decode-2 c =
     let size = c .before .before .before in
     let value = size .before .before .args .value in
     part-length (value .len) (value .bytes) (size .size .result) (size .size .ensures)
@@ -36,47 +37,54 @@ decode-requires c κs =
     omega (arith, length-take (size .size .result) (value .bytes))
 
 -- what decoding the value came to
-decoding : (c : tie.After-decode) → let a = c .before .before .before .before .before .before .args in
-    Decoding (ddValueView (a .value)) (a .dst .now) (c .decode .result) (c .decode .last .0)
+decoding : (c : tie.After-decode) → Decoding (ddValueView (c .before .before .before .before .before .before .args .value)) (replicate 128 0) (c .decode .result) (c .decode .last .0)
 unfolding ddValueView
 decoding c =
     let size = c .before .before .before .before in
     let value = size .before .before .args .value in
     rw (part-is (value .len) (value .bytes) (size .size .result) (size .size .ensures)) at (c .decode .ensures)
 
--- the same, where it decoded
-decoding-done : (c : tie.After-n) → let at = c .before .before .before .before in
-    let a = at .before .before .before .before .before .before .args in
-    Decoding (ddValueView (a .value)) (a .dst .now) (Length (c .n .given .0 .0)) (at .decode .last .0)
-decoding-done c = rw (c .n .given .1) at (decoding (c .before .before .before .before))
+-- where it decoded: what stands at the front of the room, and how long it is
+module _ (c : tie.After-n) where
+  done : let at = c .before .before .before in
+      Decoding (ddValueView (at .before .before .before .before .before .before .args .value)) (replicate 128 0) (Length (c .n .given .0 .0)) (at .decode .last .0)
+  done = rw (c .n .given .1) at (decoding (c .before .before .before))
 
-as-address-requires : tie.Need-as-address-requires
-unfolding ddValueView
-as-address-requires c κs =
-    let done = c .before .before in
-    let at = done .before .before .before .before in
-    let start = at .before .before .before .before .before .before in
-    let a = start .args in
-    let room : length (a .value .bytes) ≡ 128 = search needs in
-    let l = length-take (a .value .len) (a .value .bytes) in
-    let f = decoded-fits (ddValueView (a .value)) (a .dst .now) (at .decode .last .0) (done .n .given .0 .0) (decoding-done done) (omega (arith, start .pre)) in
-    (f .0, omega (arith, f .1))
+  done-fits : (c .n .given .0 .0 ≤ length (c .before .before .before .decode .last .0)) × (c .n .given .0 .0 ≤ 128)
+  unfolding ddValueView
+  done-fits =
+      let at = c .before .before .before in
+      let value = at .before .before .before .before .before .before .args .value in
+      let room : length (value .bytes) ≡ 128 = search needs in
+      let l = length-take (value .len) (value .bytes) in
+      let f = decoded-fits (ddValueView value) (replicate 128 0) (at .decode .last .0) (c .n .given .0 .0) done (omega arith) in
+      (f .0, omega (arith, f .1))
+
+  done-length : length (take (c .n .given .0 .0) (c .before .before .before .decode .last .0)) ≡ c .n .given .0 .0
+  done-length = length-take-le (c .n .given .0 .0) (c .before .before .before .decode .last .0) (done-fits .0)
+
+put-address-requires : tie.Need-put-address-requires
+put-address-requires c κs =
+    let n = c .before .before .before in
+    let start = n .before .before .before .before .before .before .before .before .before in
+    (omega (arith, done-fits n .1, done-length n), omega (arith, done-fits n .1, done-length n, start .pre))
 
 returns : tie.Need-returns
 returns c =
-    let done = c .before .before .before in
-    let at = done .before .before .before .before in
-    let a = at .before .before .before .before .before .before .args in
-    rw (decoded-front (ddValueView (a .value)) (a .dst .now) (at .decode .last .0) (done .n .given .0 .0) (decoding-done done)) (c .as-address .ensures)
+    let n = c .before .before .before .before .before .before in
+    let at = n .before .before .before in
+    let value = at .before .before .before .before .before .before .args .value in
+    rw (decoded-front (ddValueView value) (replicate 128 0) (at .decode .last .0) (n .n .given .0 .0) (done n)) (c .before .before .put-address .ensures)
 
 returns-2 : tie.Need-returns-2
 unfolding Decoding inShape
 returns-2 c =
-    let at = c .before .before .before .before in
-    let a = at .before .before .before .before .before .before .args in
-    let e : Decoding (ddValueView (a .value)) (a .dst .now) Undecoded (at .decode .last .0) = rw (c .enum-told .given .1) at (decoding at) in
-    rw e
+    let at = c .before .before .before in
+    let value = at .before .before .before .before .before .before .args .value in
+    let e : Decoding (ddValueView value) (replicate 128 0) Undecoded (at .decode .last .0) = rw (c .enum-told .given .1) at (decoding at) in
+    (rw e, refl)
 
 pub write-value-spec : {M : Type 1} → statement M
-write-value-spec = tie.close (tie.spec (λ c κs. search needs) array-share-prefix-bytes slice-aggregate-decode decode-requires (λ c. search needs)
-    as-address-requires (λ c. search needs) (λ c. search needs) returns (λ c. search needs) returns-2)
+write-value-spec = tie.close (tie.spec (λ c κs. search needs) (λ c. search needs) array-share-prefix-bytes slice-aggregate-decode-2 decode-requires
+    (λ c. search needs) (λ c. done-fits (c .before .before) .0) (λ c. sym (done-length (c .before .before .before))) put-address-requires
+    (λ c. search needs) (λ c. search needs) returns returns-2)

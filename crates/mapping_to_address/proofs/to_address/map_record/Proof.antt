@@ -2,12 +2,14 @@
 -- Assumes nothing.
 use mathlib.Core.Path.{_≡_, refl, sym, ap, _∙_}
 use mathlib.Core.Bool.{true}
+use mathlib.Core.Option.{some}
+use Prim.Native.Nat.{_≤_}
 use lib.Seq.{length-take-le}
-use lib.ListN.{take}
+use lib.ListN.{length, take}
 use Rattle.chars.proofs.Laws.Lists.{failed, passed}
 use Rattle.oraddr.specs.Canonical.{canonicalRecord}
 use Rattle.oraddr.specs.View.{view}
-use Rattle.mapping.specs.Answers.{Fronted, outward, toldAddress}
+use Rattle.mapping.specs.Answers.{outward, toldAddress}
 use Rattle.mapping.specs.ToAddress.{addressOf}
 use Rattle.mapping.specs.declared.answers.ToAddress.{ToAddress}
 use Rattle.mapping.proofs.Laws.Route.{answer-none, answer-not, answer-placed}
@@ -44,16 +46,17 @@ enum-known-n c = search needs
 
 -- the address that was written
 written : (c : tie.After-n) → let a = c .before .before .before .before .before .before .before .before .before .before .args in
-    Fronted (addressOf (outward (a .text .now) (a .to-domain .now) (a .table)) (view (a .rec))) (c .n .given .0 .0) (c .before .before .before .write-address .last .0)
-written c = rw (c .n .given .1) at (c .before .before .before .write-address .ensures)
+    let new = c .before .before .before .write-address .last .0 in
+    (addressOf (outward (a .text .now) (a .to-domain .now) (a .table)) (view (a .rec)) ≡ some (take (c .n .given .0 .0) new)) × (c .n .given .0 .0 ≤ length new)
+written c = let w = rw (c .n .given .1) at (c .before .before .before .write-address .ensures) in (w .told, w .fits)
 
 array-share-prefix-address : tie.Need-array-share-prefix-address
-array-share-prefix-address c = written (c .before .before) .fits
+array-share-prefix-address c = written (c .before .before) .1
 
 slice-aggregate-place : tie.Need-slice-aggregate-place
 slice-aggregate-place c =
     let at = c .before .before .before in
-    sym (length-take-le (at .n .given .0 .0) (at .before .before .before .write-address .last .0) (written at .fits))
+    sym (length-take-le (at .n .given .0 .0) (at .before .before .before .write-address .last .0) (written at .1))
 
 place-requires : tie.Need-place-requires
 place-requires c κs = search needs
@@ -73,13 +76,13 @@ returns-2 c =
     let a = at .before .before .before .before .before .before .before .before .before .before .args in
     c .before .before .place .ensures
     ∙ answer-placed (outward (a .text .now) (a .to-domain .now) (a .table)) (a .rec) (a .out .now) (take (at .n .given .0 .0) (at .before .before .before .write-address .last .0))
-    (good (at .before .before .before .before)) (written at .told)
+    (good (at .before .before .before .before)) (written at .0)
 
 returns-3 : tie.Need-returns-3
 returns-3 c =
     let a = c .before .before .before .before .before .before .before .before .before .before .before .args in
     ap (λ (r : ToAddress). toldAddress r (a .out .now)) (c .refused2 .ensures)
-    ∙ answer-none (outward (a .text .now) (a .to-domain .now) (a .table)) (a .rec) (a .out .now) (good (c .before .before .before .before .before)) (rw (c .before .enum-told .given .1) at (c .before .before .before .before .write-address .ensures))
+    ∙ answer-none (outward (a .text .now) (a .to-domain .now) (a .table)) (a .rec) (a .out .now) (good (c .before .before .before .before .before)) (rw (c .before .enum-told .given .1) at (c .before .before .before .before .write-address .ensures) .0)
 
 pub map-record-spec : {M : Type 1} → statement M
 map-record-spec = tie.close (tie.spec is-canonical-requires refused-requires returns slice-aggregate-write-address write-address-requires enum-known-n

@@ -6,9 +6,8 @@ use mathlib.Core.List.{List}
 use Prim.Native.Nat.{ℕ, _+_, _≤_}
 use native.Mathlib.Omega.{arith}
 use lib.ListN.{length, take, drop, set, length-set}
-use lib.Seq.{length-take-le}
 use Rattle.chars.specs.Write.{Wrote}
-use Rattle.chars.proofs.Laws.Write.{wrote-length, wrote-one, wrote-taken, wrote-then}
+use Rattle.chars.proofs.Laws.Write.{wrote-length, wrote-one, wrote-over, wrote-taken, wrote-then}
 use Rattle.oraddr.specs.Attributes.{levels}
 use Rattle.oraddr.specs.View.{view}
 use Rattle.oraddr.proofs.Laws.Canonical.{canonical-view}
@@ -21,7 +20,7 @@ use Rattle.table.specs.Rows.{between}
 use Rattle.mapping.specs.Answers.{addressRoom}
 use Rattle.mapping.specs.Flat.{fronts}
 use Rattle.mapping.proofs.Laws.Flat.{extended-fronts, length-fronts}
-use Rattle.mapping.proofs.Laws.Route.{length-local, length-row}
+use Rattle.mapping.proofs.Laws.Route.{length-local, length-row, quoted-longer}
 use borrow.Author.Needs.{needs}
 use Rattle.mapping_to_address.proofs.to_address.write_routed.Statement.{statement}
 use Rattle.mapping_to_address.proofs.to_address.write_routed.Tie as tie
@@ -50,40 +49,31 @@ module _ (c : tie.Start) where
   domain-fits : length (rowDomain c) ≤ 253
   domain-fits = length-row (c .args .text .now) (c .args .route .row) (c .pre .1 .1 .1 .0)
 
-slice-aggregate-write-local : tie.Need-slice-aggregate-write-local
-slice-aggregate-write-local c = search needs
-
-add-write-local : tie.Need-add-write-local
-add-write-local c = search needs
-
 write-local-requires : tie.Need-write-local-requires
-write-local-requires c κs = omega (arith, local-fits (c .before .before .before .before .before))
+write-local-requires c κs = let start = c .before .before .before .before .before in omega (arith, local-fits start, start .pre .0)
 
--- the local part is written, and where it ends
-module _ (c : tie.After-write-local) where
-  local-text : take (c .write-local .result) (c .write-local .last .0) ≡ localPart (c .before .before .before .before .before .before)
-  local-text = wrote-taken (c .write-local .ensures) (omega (arith, local-fits (c .before .before .before .before .before .before)))
+-- the local part is written
+local-text : (c : tie.After-write-local) → take (c .write-local .result) (c .write-local .last .0) ≡ localPart (c .before .before .before .before .before .before)
+local-text c = let start = c .before .before .before .before .before .before in wrote-taken (c .write-local .ensures) (omega (arith, local-fits start, start .pre .0))
 
-  local-end : c .write-local .result ≤ length (c .write-local .last .0)
-  local-end = omega (arith, local-fits (c .before .before .before .before .before .before), c .write-local .ensures .moved, wrote-length (c .write-local .ensures))
+quote-front-requires : tie.Need-quote-front-requires
+quote-front-requires c κs =
+    let w = c .before .before .before in
+    let start = w .before .before .before .before .before .before in
+    let l = wrote-length (w .write-local .ensures) in (
+      (omega (arith, local-fits start, w .write-local .ensures .moved), omega (arith, local-fits start, w .write-local .ensures .moved, l, start .pre .0)),
+      rw (local-text w) (omega (arith, quoted-fits start, l, start .pre .0)),
+    )
 
-array-share-prefix-local : tie.Need-array-share-prefix-local
-array-share-prefix-local c = local-end (c .before .before)
+-- and then the quoted one over it
+sent : (c : tie.After-quote-front) → let start = c .before .before .before .before .before .before .before .before .before .before in
+    Wrote (start .args .dst .now) 0 (quotedLocal (localPart start)) (c .quote-front .result) (c .quote-front .last .0)
+sent c =
+    let w = c .before .before .before .before in
+    let u = localPart (w .before .before .before .before .before .before) in
+    wrote-over (w .write-local .ensures) (rw (local-text w) at (c .quote-front .ensures)) (omega arith) (omega (arith, quoted-longer u))
 
-slice-aggregate-put-local : tie.Need-slice-aggregate-put-local
-slice-aggregate-put-local c = let w = c .before .before .before .write-local in sym (length-take-le (w .result) (w .last .0) (local-end (c .before .before .before)))
-
-put-local-requires : tie.Need-put-local-requires
-put-local-requires c κs =
-    let start = c .before .before .before .before .before .before .before .before .before in
-    rw (local-text (c .before .before .before)) (omega (arith, quoted-fits start, start .pre .0))
-
--- the quoted local part is written
-sent : (c : tie.After-put-local) → let start = c .before .before .before .before .before .before .before .before .before .before in
-    Wrote (start .args .dst .now) 0 (quotedLocal (localPart start)) (c .put-local .result) (c .put-local .last .0)
-sent c = rw (local-text (c .before .before .before .before)) at (c .put-local .ensures)
-
-sent-end : (c : tie.After-put-local) → (c .put-local .result ≤ 1737) × (length (c .put-local .last .0) ≡ addressRoom)
+sent-end : (c : tie.After-quote-front) → (c .quote-front .result ≤ 1737) × (length (c .quote-front .last .0) ≡ addressRoom)
 sent-end c =
     let start = c .before .before .before .before .before .before .before .before .before .before in
     (omega (arith, sent c .moved, quoted-fits start), wrote-length (sent c) ∙ start .pre .0)
@@ -103,23 +93,14 @@ put-fronts-requires c κs =
 
 -- the levels in front are written
 fronted : (c : tie.After-put-fronts) →
-    let p = c .before .before .before .before .put-local in
+    let p = c .before .before .before .before .quote-front in
     Wrote (set (p .last .0) (p .result) 64) (p .result + 1) (fronts (frontLevels (c .before .before .before .before .before .before .before .before .before .before .before .before .before .before))) (c .put-fronts .result) (c .put-fronts .last .0)
 fronted c = rw (c .before .before .before .before .before .before .before .before .before .before .before .before .before .before .pre .1 .1 .0 .holds) at (c .put-fronts .ensures)
 
 fronted-length : (c : tie.After-put-fronts) → length (c .put-fronts .last .0) ≡ addressRoom
 fronted-length c =
-    let p = c .before .before .before .before .put-local in
+    let p = c .before .before .before .before .quote-front in
     wrote-length (fronted c) ∙ length-set (p .last .0) (p .result) 64 ∙ sent-end (c .before .before .before .before) .1
-
-sub-put : tie.Need-sub-put
-sub-put c = search needs
-
-part-put-start : tie.Need-part-put-start
-part-put-start c = search needs
-
-part-put-end : tie.Need-part-put-end
-part-put-end c = search needs
 
 put-requires : tie.Need-put-requires
 unfolding between
@@ -142,6 +123,5 @@ returns c =
     (wrote-then (sent (at .before .before .before .before)) (wrote-then (wrote-one 64) (wrote-then (fronted at) (c .before .before .put .ensures))))
 
 pub write-routed-spec : {M : Type 1} → statement M
-write-routed-spec = tie.close (tie.spec slice-aggregate-write-local add-write-local write-local-requires array-share-prefix-local
-    slice-aggregate-put-local put-local-requires slice-write-dst add-put-fronts put-fronts-requires sub-put part-put-start part-put-end put-requires
-    same-length returns)
+write-routed-spec = tie.close (tie.spec (λ c. search needs) write-local-requires quote-front-requires slice-write-dst add-put-fronts
+    put-fronts-requires (λ c. search needs) (λ c. search needs) (λ c. search needs) put-requires same-length returns)

@@ -1,46 +1,41 @@
 -- `router_line::line::place_answer` meets its contract.
 -- Assumes nothing.
-use mathlib.Core.Path.{sym, subst}
-use mathlib.Core.List.{List}
-use Prim.Native.Nat.{ℕ, _≤_}
+use mathlib.Core.Path.{_≡_}
+use Prim.Native.Nat.{_+_, _-_, _≤_}
 use native.Mathlib.Omega.{arith}
-use lib.ListN.{length}
-use lib.Seq.{length-take-le}
-use Rattle.chars.proofs.Laws.Write.{wrote-length, wrote-taken}
+use lib.ListN.{drop, length, take}
+use Rattle.chars.proofs.Laws.Write.{wrote-within}
 use Rattle.table_load.specs.Load.{loadAnswer}
 use Rattle.router_line.specs.Line.{lineAnswer}
-use Rattle.router_line.specs.Ready.{Placed}
-use Rattle.table_load.proofs.Laws.Ready.{ready-formed}
-use Rattle.router_line.proofs.Laws.Line.{answer-length}
+use Rattle.router_line.proofs.Laws.Line.{ready-length}
 use borrow.Author.Needs.{needs}
 use Rattle.router_line.proofs.line.place_answer.Statement.{statement}
 use Rattle.router_line.proofs.line.place_answer.Tie as tie
 
--- any answer fits
-fits : (c : tie.After-answer-line) → let start = c .before .before .before .before .before .before .before in
+-- any answer fits in the part that is lent, and that in the output
+module _ (c : tie.After-answer-line) where
+  fits : let a = c .before .before .before .before .before .before .before .before .args in
+      length (lineAnswer (loadAnswer (a .text .now) (a .to-path .now) (a .to-domain .now) (a .read)) (a .line .now)) ≤ 2563
+  fits =
+      let start = c .before .before .before .before .before .before .before .before in
+      let a = start .args in
+      ready-length (a .text .now) (a .to-path .now) (a .to-domain .now) (a .read) (a .line .now) (start .pre .0)
+
+  room : let a = c .before .before .before .before .before .before .before .before .args in a .at + 2563 ≤ length (a .out .now)
+  room = search needs
+
+  part : let a = c .before .before .before .before .before .before .before .before .args in length (take (a .at + 2563 - a .at) (drop (a .at) (a .out .now))) ≡ 2563
+  part = search needs
+
+returns-2 : tie.Need-returns-2
+returns-2 c =
+    let w = c .before .before in
+    let start = w .before .before .before .before .before .before .before .before in
     let a = start .args in
-    length (lineAnswer (loadAnswer (a .text .now) (a .to-path .now) (a .to-domain .now) (a .read)) (a .line .now)) ≤ 2563
-fits c =
-    let start = c .before .before .before .before .before .before .before in
-    let a = start .args in
-    answer-length (loadAnswer (a .text .now) (a .to-path .now) (a .to-domain .now) (a .read)) (a .line .now) (ready-formed (a .text .now) (a .to-path .now) (a .to-domain .now) (a .read) (start .pre .0))
-
-array-share-prefix-answer : tie.Need-array-share-prefix-answer
-array-share-prefix-answer c = omega (arith, fits (c .before .before), c .before .before .answer-line .ensures .moved, wrote-length (c .before .before .answer-line .ensures))
-
-slice-aggregate-place : tie.Need-slice-aggregate-place
-slice-aggregate-place c =
-    let w = c .before .before .before .answer-line in
-    sym (length-take-le (w .result) (w .last .1 .1 .1 .1 .1 .0) (omega (arith, fits (c .before .before .before), w .ensures .moved, wrote-length (w .ensures))))
-
-returns : tie.Need-returns
-returns c =
-    let w = c .before .before .before .before .before .before in
-    let a = w .before .before .before .before .before .before .before .args in
-    subst (λ (s : List ℕ). Placed (a .out .now) (a .at) s (c .before .before .place .result) (c .before .before .place .last .0))
-    (wrote-taken (w .answer-line .ensures) (omega (arith, fits w)))
-    (c .before .before .place .ensures)
+    (wrote-within (a .at) (a .at + 2563 - a .at) (w .answer-line .ensures) (omega (arith, fits w, part w)) (start .pre .1), omega (arith, fits w, room w, w .answer-line .ensures .moved))
 
 pub place-answer-spec : {M : Type 1} → statement M
-place-answer-spec = tie.close (tie.spec (λ c. search needs) (λ c κs. search needs) array-share-prefix-answer slice-aggregate-place
-    (λ c κs. search needs) (λ c. search needs) returns)
+place-answer-spec = tie.close (tie.spec (λ c. search needs) (λ c κs. search needs) (λ c. search needs) (λ c. search needs) (λ c. search needs)
+    (λ c. search needs) (λ c. search needs) (λ c. search needs) (λ c κs. search needs)
+    (λ c. omega (arith, fits (c .before .before), room (c .before .before), c .before .before .answer-line .ensures .moved)) (λ c. search needs)
+    returns-2)

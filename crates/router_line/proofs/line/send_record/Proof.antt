@@ -1,10 +1,11 @@
 -- `router_line::line::send_record` meets its contract.
 -- Assumes nothing.
-use mathlib.Core.Path.{_≡_, refl, sym, _∙_}
+use mathlib.Core.Path.{_≡_, sym, ap, _∙_}
 use mathlib.Core.Bool.{true}
 use native.Mathlib.Omega.{arith}
 use borrow.Author.Tests.{not-false, not-true}
-use lib.ListN.{take}
+use borrow.Rule.Slice.PartMut.{put-same, putMid, same-len-mid}
+use lib.ListN.{drop, length, length-drop, take}
 use lib.Seq.{length-take-le}
 use Rattle.oraddr.specs.Canonical.{canonicalRecord}
 use Rattle.oraddr.specs.View.{view}
@@ -12,7 +13,7 @@ use Rattle.ortext_read.specs.Apply.{read}
 use Rattle.mapping.specs.Answers.{Fronted, outward}
 use Rattle.mapping.specs.ToAddress.{addressOf}
 use Rattle.router_line.specs.Line.{doneLine, readLine, refusedLine}
-use Rattle.router_line.proofs.Laws.Line.{sent-done, sent-none, sent-not, wrote-as}
+use Rattle.router_line.proofs.Laws.Line.{done-over, sent-done, sent-none, sent-not, wrote-as}
 use borrow.Author.Needs.{needs}
 use Rattle.router_line.proofs.line.send_record.Statement.{statement}
 use Rattle.router_line.proofs.line.send_record.Tie as tie
@@ -30,51 +31,51 @@ returns c =
 good : (c : tie.Else1) → canonicalRecord (c .before .before .before .before .before .args .rec) ≡ true
 good c = sym (c .before .is-canonical .ensures) ∙ not-false (c .before .is-canonical .result) (c .if1 .left)
 
+-- how long the part is that is lent
+part-length : (c : tie.Start) → length (take 2560 (drop 2 (c .args .dst .now))) ≡ 2560
+part-length c = length-take-le 2560 (drop 2 (c .args .dst .now)) (omega (arith, length-drop 2 (c .args .dst .now), c .pre .1 .1))
+
 write-address-requires : tie.Need-write-address-requires
 write-address-requires c κs =
     let start = c .before .before .before .before .before .before in
-    (refl, (start .pre .0, (start .pre .1 .0, good (c .before))))
+    (part-length start, (start .pre .0, (start .pre .1 .0, good (c .before))))
 
 -- the address that was written
-written : (c : tie.After-n) → let w = c .before .before .before in
+written : (c : tie.After-n) → let w = c .before .before .before .before in
     let a = w .before .before .before .before .before .before .before .args in
-    Fronted (addressOf (outward (a .text .now) (a .to-domain .now) (a .table)) (view (a .rec))) (c .n .given .0 .0) (w .write-address .last .0)
-written c = rw (c .n .given .1) at (c .before .before .before .write-address .ensures)
-
-array-share-prefix-address : tie.Need-array-share-prefix-address
-array-share-prefix-address c = written (c .before .before) .fits
-
-slice-aggregate-put-done : tie.Need-slice-aggregate-put-done
-slice-aggregate-put-done c =
-    let n = c .before .before .before in
-    sym (length-take-le (n .n .given .0 .0) (n .before .before .before .write-address .last .0) (written n .fits))
+    Fronted (addressOf (outward (a .text .now) (a .to-domain .now) (a .table)) (view (a .rec))) (take 2560 (drop 2 (a .dst .now))) (c .n .given .0 .0) (w .write-address .last .0)
+written c = rw (c .n .given .1) at (c .before .before .before .before .write-address .ensures)
 
 put-done-requires : tie.Need-put-done-requires
 put-done-requires c κs =
-    let n = c .before .before .before in
-    let w = n .before .before .before in
+    let n = c .before .before in
+    let w = n .before .before .before .before in
     let start = w .before .before .before .before .before .before .before in
-    omega (arith, length-take-le (n .n .given .0 .0) (w .write-address .last .0) (written n .fits), written n .fits, w .write-address .kept .0, start .pre .1 .1)
+    omega (arith, same-len-mid 2 2560 (start .args .dst .now) (w .write-address .last .0) (w .write-address .kept .0), written n .fits, w .write-address .kept .0, part-length start, start .pre .1 .1)
 
 returns-2 : tie.Need-returns-2
 returns-2 c =
-    let n = c .before .before .before .before .before .before in
-    let w = n .before .before .before in
-    let a = w .before .before .before .before .before .before .before .args in
+    let n = c .before .before .before .before .before in
+    let w = n .before .before .before .before in
+    let start = w .before .before .before .before .before .before .before in
+    let a = start .args in
     let t = outward (a .text .now) (a .to-domain .now) (a .table) in
     let s = take (n .n .given .0 .0) (w .write-address .last .0) in
-    wrote-as (doneLine s) (readLine t (read (a .rec))) (sent-done t (a .rec) s (good (w .before .before)) (written n .told)) (c .before .before .put-done .ensures)
+    wrote-as (doneLine s) (readLine t (read (a .rec))) (sent-done t (a .rec) s (good (w .before .before)) (written n .told))
+    (done-over 2560 (written n .wrote) (written n .fits) (omega (arith, start .pre .1 .1)) (c .before .before .put-done .ensures))
 
 returns-3 : tie.Need-returns-3
 returns-3 c =
-    let w = c .before .before .before .before .before .before .before in
+    let told = c .before .before .before .before in
+    let w = told .before .before .before .before in
     let a = w .before .before .before .before .before .before .before .args in
+    let d = a .dst .now in
     let t = outward (a .text .now) (a .to-domain .now) (a .table) in
-    wrote-as (refusedLine 5) (readLine t (read (a .rec)))
-    (sent-none t (a .rec) (good (w .before .before)) (rw (c .before .before .before .before .enum-told .given .1) at (w .write-address .ensures)))
-    (c .before .before .put-refusal2 .ensures)
+    let none = rw (told .enum-told .given .1) at (w .write-address .ensures) in
+    wrote-as (refusedLine 5) (readLine t (read (a .rec))) (sent-none t (a .rec) (good (w .before .before)) (none .0))
+    (rw (ap (putMid 2 2560 d) (none .1) ∙ put-same 2 2560 d) at (c .before .before .put-refusal2 .ensures))
 
 pub send-record-spec : {M : Type 1} → statement M
-send-record-spec = tie.close (tie.spec (λ c κs. search needs) (λ c κs. search needs) (λ c. search needs) returns (λ c. search needs)
-    write-address-requires (λ c. search needs) array-share-prefix-address slice-aggregate-put-done put-done-requires (λ c. search needs)
+send-record-spec = tie.close (tie.spec (λ c κs. search needs) (λ c κs. search needs) (λ c. search needs) returns (λ c. search needs) (λ c. search needs)
+    (λ c. search needs) (λ c. search needs) write-address-requires (λ c. search needs) put-done-requires (λ c. search needs)
     (λ c κs. search needs) (λ c. search needs) returns-2 (λ c. search needs) returns-3)
