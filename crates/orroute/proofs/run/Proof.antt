@@ -3,7 +3,7 @@
 use mathlib.Core.Path.{_≡_}
 use Prim.Native.Nat.{_≤_}
 use native.Mathlib.Omega.{arith}
-use lib.ListN.{length}
+use lib.ListN.{length, length-replicate}
 use borrow.Author.Needs.{needs}
 use Rattle.orroute.proofs.run.Statement.{statement}
 use Rattle.orroute.proofs.run.Tie as tie
@@ -14,6 +14,9 @@ Inv-loop text to-path to-domain read input₀ out₀ left₀ turns₀ input out 
 
 abbrev μ-loop : tie.MeasureT-loop
 μ-loop text to-path to-domain read input₀ out₀ left₀ turns₀ input out left turns = turns
+
+loop-holds : tie.Need-loop-holds Inv-loop μ-loop
+loop-holds c = (length-replicate 65536 0, length-replicate 262144 0, omega arith)
 
 step-requires : tie.Need-step-requires Inv-loop μ-loop
 step-requires c κs =
@@ -31,5 +34,5 @@ returns-2 : tie.Need-returns-2 Inv-loop μ-loop
 returns-2 c = search needs
 
 pub run-spec : {M : Type 1} → statement M
-run-spec = tie.close (tie.spec Inv-loop μ-loop (λ c. search needs) (λ c. search needs) (λ c. search needs) step-requires returns (λ c. search needs)
+run-spec = tie.close (tie.spec Inv-loop μ-loop loop-holds (λ c. search needs) (λ c. search needs) step-requires returns (λ c. search needs)
     (λ c. search needs) loop-again returns-2)
