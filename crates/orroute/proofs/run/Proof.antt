@@ -1,7 +1,7 @@
 -- `orroute::run` meets its contract.
 -- Assumes nothing.
 use mathlib.Core.Path.{_≡_}
-use Prim.Native.Nat.{_≤_}
+use Prim.Native.Nat.{ℕ, _≤_}
 use native.Mathlib.Omega.{arith}
 use lib.ListN.{length, length-replicate}
 use borrow.Author.Needs.{needs}
@@ -16,7 +16,7 @@ abbrev μ-loop : tie.MeasureT-loop
 μ-loop text to-path to-domain read input₀ out₀ left₀ turns₀ input out left turns = turns
 
 loop-holds : tie.Need-loop-holds Inv-loop μ-loop
-loop-holds c = (length-replicate 65536 0, length-replicate 262144 0, omega arith)
+loop-holds c = (length-replicate {A = ℕ} 65536 0, length-replicate {A = ℕ} 262144 0, omega arith)
 
 step-requires : tie.Need-step-requires Inv-loop μ-loop
 step-requires c κs =
