@@ -26,7 +26,7 @@ use Rattle.mailaddr.specs.Shape.{Address, addressText, closing, escaped,
 use Rattle.mailaddr.specs.Answers.{addressAt, fromShape, localAt, shaping}
 use Rattle.mailaddr.specs.declared.shape.Parted.{Parted}
 use Rattle.chars.proofs.Laws.Options.{none-some, some-same}
-use Rattle.mailaddr.proofs.Laws.Closing.{closes, escaped-close, escaped-plain, inner-at, inner-none, length-escaped, more-some, unescape-escape}
+use Rattle.mailaddr.proofs.Laws.Closing.{closes, escaped-close, escaped-longer, escaped-plain, inner-at, inner-none, length-escaped, more-some, unescape-escape}
 
 -- ---- the bytes of atoms
 
@@ -221,6 +221,13 @@ quoted-atoms u h = rw h
 pub quoted-other : (u : List ℕ) → isAtoms u ≡ false → quotedLocal u ≡ 34 ∷ escaped u ++ (34 ∷ [])
 unfolding quotedLocal
 quoted-other u h = rw h
+
+-- quoting makes no local part shorter
+pub quoted-longer : (u : List ℕ) → length u ≤ length (quotedLocal u)
+quoted-longer u =
+    by-test (isAtoms u)
+    (λ e. rw (quoted-atoms u e) (omega arith))
+    (λ e. rw (quoted-other u e) (omega (arith, length-append (escaped u) (34 ∷ []), escaped-longer u)))
 
 -- a text of bytes 32 to 126 between quotes
 pub quoted-text : (u : List ℕ) → all isText u ≡ true → Quoted (34 ∷ escaped u ++ (34 ∷ []))

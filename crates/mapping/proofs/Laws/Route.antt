@@ -2,7 +2,7 @@
 -- Assumes nothing.
 use mathlib.Core.Path.{_≡_, refl, sym, ap, subst, _∙_}
 use mathlib.Core.Bool.{true, false, cond}
-use mathlib.Core.List.{List, [], _∷_, _++_}
+use mathlib.Core.List.{List, _∷_, _++_}
 use mathlib.Core.Option.{Option, none, some}
 use Prim.Native.Nat.{ℕ, _+_, _≤_}
 use native.Mathlib.Omega.{arith}
@@ -21,9 +21,8 @@ use Rattle.oraddr.proofs.Laws.Canonical.{canonical-view}
 use Rattle.ortext_segments.specs.Keys.{keys}
 use Rattle.ortext_write.specs.Write.{localText, remaining}
 use Rattle.ortext_write.proofs.Laws.Write.{local-bound, text-class}
-use Rattle.mailaddr.specs.Shape.{addressText, escaped, quotedLocal}
-use Rattle.mailaddr.proofs.Laws.Closing.{escaped-longer}
-use Rattle.mailaddr.proofs.Laws.Shape.{length-quoted-quotable, quoted-atoms, quoted-other}
+use Rattle.mailaddr.specs.Shape.{addressText, quotedLocal}
+use Rattle.mailaddr.proofs.Laws.Shape.{length-quoted-quotable, quoted-atoms}
 use Rattle.table.specs.Table.{Row, Table, Token}
 use Rattle.table_load.specs.Load.{loadAnswer}
 use Rattle.table_lookup.specs.Lookup.{byPath, extension, look}
@@ -83,13 +82,6 @@ module _ (s rs : List ℕ) (t : load.Loaded.Loaded) (ls : List Token) where
   routed-nowhere h g = rw (h .row) (record { from = refl; domain = refl; inside = g; few = omega arith })
 
 -- ---- how long its address is
-
--- quoting makes no local part shorter
-pub quoted-longer : (u : List ℕ) → length u ≤ length (quotedLocal u)
-quoted-longer u =
-    by-test (isAtoms u)
-    (λ e. rw (quoted-atoms u e) (omega arith))
-    (λ e. rw (quoted-other u e) (omega (arith, length-append (escaped u) (34 ∷ []), escaped-longer u)))
 
 pub length-local : (r : Record) → canonicalRecord r ≡ true → (n : ℕ) → length (quotedLocal (localText keys (remaining n (view r)))) ≤ 1737
 unfolding isQuotable

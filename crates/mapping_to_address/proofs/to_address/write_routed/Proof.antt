@@ -20,7 +20,8 @@ use Rattle.table.specs.Rows.{between}
 use Rattle.mapping.specs.Answers.{addressRoom}
 use Rattle.mapping.specs.Flat.{fronts}
 use Rattle.mapping.proofs.Laws.Flat.{extended-fronts, length-fronts}
-use Rattle.mapping.proofs.Laws.Route.{length-local, length-row, quoted-longer}
+use Rattle.mapping.proofs.Laws.Route.{length-local, length-row}
+use Rattle.mailaddr.proofs.Laws.Shape.{quoted-longer}
 use borrow.Author.Needs.{needs}
 use Rattle.mapping_to_address.proofs.to_address.write_routed.Statement.{statement}
 use Rattle.mapping_to_address.proofs.to_address.write_routed.Tie as tie
