@@ -23,7 +23,7 @@ use Rattle.chars.specs.Write.{Wrote}
 use Rattle.chars.proofs.Laws.Lists.{all-append, all-at, all-map, all-take, and-both}
 use Rattle.chars.proofs.Laws.Write.{wrote-length, wrote-place}
 use Rattle.oraddr.specs.Attributes.{Attributes, levels}
-use Rattle.oraddr.specs.Bounds.{most}
+use Rattle.oraddr.specs.Bounds.{levelCount, most, singleCount}
 use Rattle.oraddr.specs.View.{singlesView, unitView, unitsView, valueView, view}
 use Rattle.oraddr.specs.declared.record.Record.{Record}
 use Rattle.mailaddr.specs.Domain.{inFront}
@@ -149,7 +149,7 @@ filled-all ls n flat ends e room within m f =
 
 -- ---- the levels of a record are eight, each short enough for its room
 
-pub length-levels : (a : Attributes) → length (a .single) ≡ 8 → length (levels a) ≡ 8
+pub length-levels : (a : Attributes) → length (a .single) ≡ singleCount → length (levels a) ≡ levelCount
 unfolding levels
 length-levels a h = simp (length-append, length-take, length-replicate) (omega arith)
 

@@ -21,6 +21,7 @@ use Rattle.chars.proofs.Laws.Lists.{all-at, and-both, and-left, and-right, by-t
 use Rattle.chars.proofs.Laws.Seq.{getD-view, some-length}
 use Rattle.oraddr.specs.Add.{Outcome}
 use Rattle.oraddr.specs.Attributes.{Attributes, levels, unitOf}
+use Rattle.oraddr.specs.Bounds.{singleCount}
 use Rattle.oraddr.specs.Canonical.{canonicalRecord, isUnit}
 use Rattle.oraddr.specs.Same.{sameRecord}
 use Rattle.oraddr.specs.View.{emptyRecord, view}
@@ -90,7 +91,7 @@ unfolded (some ts) S e = (ts, refl, Option·some-injective (foldTokens ts) S e)
 
 -- ---- the units reach as far as the tokens do
 
-module _ (a : Attributes) (l : length (a .single) ≡ 8) where
+module _ (a : Attributes) (l : length (a .single) ≡ singleCount) where
   -- behind the units the levels are absent
   past-units : (j : ℕ) → 4 + j < 8 → length (a .units) ≤ j → getD (levels a) (4 + j) [] ≡ []
   unfolding unitOf
@@ -150,7 +151,7 @@ module _ (t : Table) (f : table.Formed t) (r : Record) (h : canonicalRecord r �
       subst (λ (x : Reading). ReadsAs x (view r)) (sym (ap₂ (λ (x : Settling) (i : ℕ). readOver x (localText keys (remaining i (view r)))) s e)) w
 
   -- with no row, nothing
-  module _ (l : length (view r .single) ≡ 8) (e : lookup.look byPath (t .toDomain) (levels (view r)) ≡ none) where
+  module _ (l : length (view r .single) ≡ singleCount) (e : lookup.look byPath (t .toDomain) (levels (view r)) ≡ none) where
     at-gateway : settledUnder t (sentPlan t r .domain) ≡ settled 0 emptyRecord
     unfolding settledUnder isGateway
     at-gateway =
@@ -162,7 +163,7 @@ module _ (t : Table) (f : table.Formed t) (r : Record) (h : canonicalRecord r �
     back-none = read-back 0 emptyRecord at-gateway (plan-none-from t (levels (view r)) e) (gateway-back (view r) l (canonical-view r h))
 
   -- with a row, its path and the levels in front of its domain
-  module _ (l : length (view r .single) ≡ 8) (checked : Checked fits (tokenTable t)) (row : Row)
+  module _ (l : length (view r .single) ≡ singleCount) (checked : Checked fits (tokenTable t)) (row : Row)
       (e : lookup.look byPath (t .toDomain) (levels (view r)) ≡ some row) where
     abbrev key : List Tok
     key = domainRow row .key
@@ -236,7 +237,7 @@ module _ (t : Table) (f : table.Formed t) (r : Record) (h : canonicalRecord r �
         let w = unfolded (lookup.resolve (t .toPath) (sentPlan t r .domain)) (key ++ x) resolves in
         back-row (w .0) (w .1) (w .2)
 
-  back : length (view r .single) ≡ 8 → Checked fits (tokenTable t) → ReadsAs (sentReading t r) (view r)
+  back : length (view r .single) ≡ singleCount → Checked fits (tokenTable t) → ReadsAs (sentReading t r) (view r)
   back l checked = case (lookup.look byPath (t .toDomain) (levels (view r))) refl
     where
       case : (o : Option Row) → lookup.look byPath (t .toDomain) (levels (view r)) ≡ o → ReadsAs (sentReading t r) (view r)
@@ -246,7 +247,7 @@ module _ (t : Table) (f : table.Formed t) (r : Record) (h : canonicalRecord r �
 -- ---- the theorem
 
 -- The record's array of attributes is as long as its type says.
-pub accepted : (t : Table) → table.Formed t → Checked fits (tokenTable t) → (r : Record) → length (view r .single) ≡ 8
+pub accepted : (t : Table) → table.Formed t → Checked fits (tokenTable t) → (r : Record) → length (view r .single) ≡ singleCount
     → canonicalRecord r ≡ true → isCarrier t (view r) ≡ false → comesBack t r ≡ true
 accepted t f checked r l h free = by-reading t f r h free (back t f r h l checked)
 

@@ -18,7 +18,7 @@ use Rattle.chars.proofs.Laws.Seq.{some-length}
 use Rattle.chars.proofs.Laws.Lists.{all-append, all-drop, all-weaken, and-both, and-left, and-right, by-test, true-not-false}
 use Rattle.oraddr.specs.Add.{Outcome}
 use Rattle.oraddr.specs.Attributes.{levels}
-use Rattle.oraddr.specs.Bounds.{ADMD}
+use Rattle.oraddr.specs.Bounds.{ADMD, singleCount}
 use Rattle.oraddr.specs.Canonical.{canonicalRecord}
 use Rattle.oraddr.specs.Same.{sameAttributes, sameRecord}
 use Rattle.oraddr.specs.View.{emptyRecord, view}
@@ -136,7 +136,7 @@ module _ (t : Table) (f : Formed t) (d : List ℕ) (i : isDomain d ≡ true) whe
 
 -- ---- the levels come back
 
-module _ (t : Table) (f : Formed t) (r : Record) (h : canonicalRecord r ≡ true) (l : length (view r .single) ≡ 8) (n : isCarrier t (view r) ≡ false) (c : comesBack t r ≡ true) where
+module _ (t : Table) (f : Formed t) (r : Record) (h : canonicalRecord r ≡ true) (l : length (view r .single) ≡ singleCount) (n : isCarrier t (view r) ≡ false) (c : comesBack t r ≡ true) where
   abbrev T : tokens.Table
   T = tokenTable t
 

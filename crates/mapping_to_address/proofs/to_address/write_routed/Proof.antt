@@ -12,7 +12,7 @@ use Rattle.oraddr.specs.Attributes.{levels}
 use Rattle.oraddr.specs.View.{view}
 use Rattle.oraddr.proofs.Laws.Canonical.{canonical-view}
 use Rattle.ortext_segments.specs.Keys.{keys}
-use Rattle.ortext_write.specs.Write.{localText, remaining}
+use Rattle.ortext_write.specs.Write.{localText, longestText, remaining}
 use Rattle.ortext_write.proofs.Laws.Write.{local-bound}
 use Rattle.mailaddr.specs.Shape.{addressText, quotedLocal}
 use Rattle.table.specs.Table.{Token}
@@ -38,10 +38,10 @@ rowDomain c = between (c .args .text .now) (c .args .route .row .domain) (c .arg
 
 -- how long they are
 module _ (c : tie.Start) where
-  local-fits : length (localPart c) ≤ 1735
+  local-fits : length (localPart c) ≤ longestText
   local-fits = local-bound (view (c .args .rec)) (canonical-view (c .args .rec) (c .pre .1 .0)) (c .args .route .own + c .args .route .more)
 
-  quoted-fits : length (quotedLocal (localPart c)) ≤ 1737
+  quoted-fits : length (quotedLocal (localPart c)) ≤ longestText + 2
   quoted-fits = length-local (c .args .rec) (c .pre .1 .0) (c .args .route .own + c .args .route .more)
 
   front-fits : length (fronts (frontLevels c)) ≤ 520
@@ -74,7 +74,7 @@ sent c =
     let u = localPart (w .before .before .before .before .before .before) in
     wrote-over (w .write-local .ensures) (rw (local-text w) at (c .quote-front .ensures)) (omega arith) (omega (arith, quoted-longer u))
 
-sent-end : (c : tie.After-quote-front) → (c .quote-front .result ≤ 1737) × (length (c .quote-front .last .0) ≡ addressRoom)
+sent-end : (c : tie.After-quote-front) → (c .quote-front .result ≤ longestText + 2) × (length (c .quote-front .last .0) ≡ addressRoom)
 sent-end c =
     let start = c .before .before .before .before .before .before .before .before .before .before in
     (omega (arith, sent c .moved, quoted-fits start), wrote-length (sent c) ∙ start .pre .0)
