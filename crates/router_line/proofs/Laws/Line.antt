@@ -36,7 +36,7 @@ use Rattle.table.specs.Table.{Table}
 use Rattle.table.specs.declared.load.Loaded.{Loaded}
 use Rattle.table.specs.declared.load.TableRead.{TableRead}
 use Rattle.table.specs.declared.load.TableRead.the-variants.{Malformed}
-use Rattle.mapping.specs.Answers.{outward, recordNumber, toldRecord}
+use Rattle.mapping.specs.Answers.{addressRoom, outward, recordNumber, toldRecord}
 use Rattle.mapping.specs.Results.{RecordResult, malformedRecord}
 use Rattle.mapping.specs.ToAddress.{addressOf}
 use Rattle.mapping.specs.ToRecord.{toRecord, toRecordBy}
@@ -176,7 +176,7 @@ refused-length : (n : ℕ) → length (refusedLine n) ≤ answerRoom
 unfolding refusedLine
 refused-length n = omega arith
 
-done-length : (s : List ℕ) → length s ≤ 2048 → length (doneLine s) ≤ answerRoom
+done-length : (s : List ℕ) → length s ≤ addressRoom → length (doneLine s) ≤ answerRoom
 unfolding doneLine
 done-length s h = omega (arith, length-append s (10 ∷ []))
 
@@ -194,7 +194,7 @@ module _ (t : Table) (f : Formed t) where
   sent-length : (r : Record) (o : Option (List ℕ)) → canonicalRecord r ≡ true → addressOf t (view r) ≡ o → length (sentLine o) ≤ answerRoom
   unfolding sentLine
   sent-length r none c e = refused-length 5
-  sent-length r (some s) c e = done-length s (address-short t f r s c e)
+  sent-length r (some s) c e = done-length s (omega (arith, address-short t f r s c e))
 
   read-length : (x : apply.Reading) → length (readLine t x) ≤ answerRoom
   unfolding readLine

@@ -4,11 +4,12 @@ use borrow.Author.Needs.{needs}
 use mathlib.Core.Path.{_≡_}
 use Prim.Native.Nat.{_-_, _≤_}
 use lib.ListN.{length}
+use Rattle.router_line.specs.Line.{answerRoom}
 use Rattle.route_cases.proofs.feed.feed.Statement.{statement}
 use Rattle.route_cases.proofs.feed.feed.Tie as tie
 
 abbrev Inv-loop : tie.InvT-loop
-Inv-loop table input out₀ over₀ at₀ end₀ turn₀ out over at end turn = (length out ≡ 2563) × (at ≤ end) × (end ≤ length input) × (turn ≤ end)
+Inv-loop table input out₀ over₀ at₀ end₀ turn₀ out over at end turn = (length out ≡ answerRoom) × (at ≤ end) × (end ≤ length input) × (turn ≤ end)
 
 abbrev μ-loop : tie.MeasureT-loop
 μ-loop table input out₀ over₀ at₀ end₀ turn₀ out over at end turn = length input - end

@@ -8,7 +8,7 @@ use lib.ListN.{length}
 use lib.Seq.{length-take-le}
 use Rattle.chars.proofs.Laws.Write.{wrote-length, wrote-taken}
 use Rattle.table_load.specs.Load.{loadAnswer}
-use Rattle.router_line.specs.Line.{lineAnswer}
+use Rattle.router_line.specs.Line.{answerRoom, lineAnswer}
 use Rattle.router_line.specs.Ready.{Placed}
 use Rattle.router_line.proofs.Laws.Line.{ready-length}
 use borrow.Author.Needs.{needs}
@@ -18,7 +18,7 @@ use Rattle.router_line.proofs.line.place_apart.Tie as tie
 -- any answer fits
 fits : (c : tie.After-answer-line) → let start = c .before .before .before .before .before .before .before in
     let a = start .args in
-    length (lineAnswer (loadAnswer (a .text .now) (a .to-path .now) (a .to-domain .now) (a .read)) (a .line .now)) ≤ 2563
+    length (lineAnswer (loadAnswer (a .text .now) (a .to-path .now) (a .to-domain .now) (a .read)) (a .line .now)) ≤ answerRoom
 fits c =
     let start = c .before .before .before .before .before .before .before in
     let a = start .args in

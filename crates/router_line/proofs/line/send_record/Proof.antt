@@ -10,7 +10,7 @@ use lib.Seq.{length-take-le}
 use Rattle.oraddr.specs.Canonical.{canonicalRecord}
 use Rattle.oraddr.specs.View.{view}
 use Rattle.ortext_read.specs.Apply.{read}
-use Rattle.mapping.specs.Answers.{Fronted, outward}
+use Rattle.mapping.specs.Answers.{Fronted, addressRoom, outward}
 use Rattle.mapping.specs.ToAddress.{addressOf}
 use Rattle.router_line.specs.Line.{doneLine, readLine, refusedLine}
 use Rattle.router_line.proofs.Laws.Line.{done-over, sent-done, sent-none, sent-not, wrote-as}
@@ -32,8 +32,8 @@ good : (c : tie.Else1) → canonicalRecord (c .before .before .before .before .b
 good c = sym (c .before .is-canonical .ensures) ∙ not-false (c .before .is-canonical .result) (c .if1 .left)
 
 -- how long the part is that is lent
-part-length : (c : tie.Start) → length (take 2560 (drop 2 (c .args .dst .now))) ≡ 2560
-part-length c = length-take-le 2560 (drop 2 (c .args .dst .now)) (omega (arith, length-drop 2 (c .args .dst .now), c .pre .1 .1))
+part-length : (c : tie.Start) → length (take addressRoom (drop 2 (c .args .dst .now))) ≡ addressRoom
+part-length c = length-take-le addressRoom (drop 2 (c .args .dst .now)) (omega (arith, length-drop 2 (c .args .dst .now), c .pre .1 .1))
 
 write-address-requires : tie.Need-write-address-requires
 write-address-requires c κs =
@@ -43,7 +43,7 @@ write-address-requires c κs =
 -- the address that was written
 written : (c : tie.After-n) → let w = c .before .before .before .before in
     let a = w .before .before .before .before .before .before .before .args in
-    Fronted (addressOf (outward (a .text .now) (a .to-domain .now) (a .table)) (view (a .rec))) (take 2560 (drop 2 (a .dst .now))) (c .n .given .0 .0) (w .write-address .last .0)
+    Fronted (addressOf (outward (a .text .now) (a .to-domain .now) (a .table)) (view (a .rec))) (take addressRoom (drop 2 (a .dst .now))) (c .n .given .0 .0) (w .write-address .last .0)
 written c = rw (c .n .given .1) at (c .before .before .before .before .write-address .ensures)
 
 put-done-requires : tie.Need-put-done-requires
@@ -51,7 +51,7 @@ put-done-requires c κs =
     let n = c .before .before in
     let w = n .before .before .before .before in
     let start = w .before .before .before .before .before .before .before in
-    omega (arith, same-len-mid 2 2560 (start .args .dst .now) (w .write-address .last .0) (w .write-address .kept .0), written n .fits, w .write-address .kept .0, part-length start, start .pre .1 .1)
+    omega (arith, same-len-mid 2 addressRoom (start .args .dst .now) (w .write-address .last .0) (w .write-address .kept .0), written n .fits, w .write-address .kept .0, part-length start, start .pre .1 .1)
 
 returns-2 : tie.Need-returns-2
 returns-2 c =
@@ -62,7 +62,7 @@ returns-2 c =
     let t = outward (a .text .now) (a .to-domain .now) (a .table) in
     let s = take (n .n .given .0 .0) (w .write-address .last .0) in
     wrote-as (doneLine s) (readLine t (read (a .rec))) (sent-done t (a .rec) s (good (w .before .before)) (written n .told))
-    (done-over 2560 (written n .wrote) (written n .fits) (omega (arith, start .pre .1 .1)) (c .before .before .put-done .ensures))
+    (done-over addressRoom (written n .wrote) (written n .fits) (omega (arith, start .pre .1 .1)) (c .before .before .put-done .ensures))
 
 returns-3 : tie.Need-returns-3
 returns-3 c =
@@ -73,7 +73,7 @@ returns-3 c =
     let t = outward (a .text .now) (a .to-domain .now) (a .table) in
     let none = rw (told .enum-told .given .1) at (w .write-address .ensures) in
     wrote-as (refusedLine 5) (readLine t (read (a .rec))) (sent-none t (a .rec) (good (w .before .before)) (none .0))
-    (rw (ap (putMid 2 2560 d) (none .1) ∙ put-same 2 2560 d) at (c .before .before .put-refusal2 .ensures))
+    (rw (ap (putMid 2 addressRoom d) (none .1) ∙ put-same 2 addressRoom d) at (c .before .before .put-refusal2 .ensures))
 
 pub send-record-spec : {M : Type 1} → statement M
 send-record-spec = tie.close (tie.spec (λ c κs. search needs) (λ c κs. search needs) (λ c. search needs) returns (λ c. search needs) (λ c. search needs)
