@@ -4,7 +4,7 @@ tests/rules.py, and runs nothing of the library. Run it from the repository's ro
 import random
 import re
 
-from rules import ATOM, PRINTABLE, is_atoms
+from rules import LONGEST_ADDRESS, PRINTABLE, is_atoms
 
 LETTERS = {b"@": b"a", b"%": b"p", b"!": b"b", b'"': b"q", b"_": b"u", b"(": b"l", b")": b"r"}
 _QUOTED = re.compile(rb'"((?:[ !#-\[\]-~]|\\[ -~])*)"')
@@ -82,7 +82,7 @@ class Cases:
 
     def shape(self, s):
         found = shape(s)
-        if len(s) > 2048:
+        if len(s) > LONGEST_ADDRESS:
             answer = b"2"
         elif found is None:
             answer = b"1"
