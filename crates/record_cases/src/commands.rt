@@ -26,7 +26,8 @@ fn attribute(tag: u8) -> Attribute {
         b's' => Attribute::S,
         b'g' => Attribute::G,
         b'i' => Attribute::I,
-        _ => Attribute::Gq,
+        b'q' => Attribute::Gq,
+        _ => Attribute::Cn,
     }
 }
 
