@@ -6,6 +6,7 @@ use mapping::answers::place;
 use mapping::answers::refused;
 use oraddr::record::Record;
 use oraddr_canonical::canonical::is_canonical;
+use ortext_write::write::LONGEST_TEXT;
 use ortext_write::write::write_text;
 ghost use mathlib.Core.Path.{_≡_};
 ghost use mathlib.Core.Bool.{true};
@@ -19,9 +20,6 @@ ghost use Rattle.mapping.specs.Answers.{Fronted, toldAddress};
 ghost use Rattle.mapping.specs.Results.{placed};
 ghost use Rattle.gateway_pack.specs.Filled.{ShownText};
 ghost use Rattle.gateway_text.specs.Texts.{textOfRecord};
-
-// Room for the text of any canonical record: `longestText`.
-const TEXT_ROOM: usize = 1735;
 
 // Writes the text of a canonical record to the front of a buffer with room for any.
 fn put_text(dst: &mut [u8], rec: Record) -> usize
@@ -37,7 +35,7 @@ pub fn write_canonical(rec: Record, out: &mut [u8]) -> ToAddress
     requires { ⌜ canonicalRecord rec ≡ true ⌝ }
     ensures { λ r. ⌜ toldAddress r (now (out .exit)) ≡ placed (recordText keys (view rec)) (now (out .entry)) ⌝ }
 {
-    let mut text = [0u8; TEXT_ROOM];
+    let mut text = [0u8; LONGEST_TEXT];
     let n = put_text(&mut text, rec);
     place(out, &text[..n])
 }
@@ -57,7 +55,7 @@ pub fn show(rec: Record, out: &mut [u8]) -> usize
     requires { ⌜ canonicalRecord rec ≡ true ⌝ }
     ensures { λ r. ⌜ ShownText (recordText keys (view rec)) (now (out .entry)) r (now (out .exit)) ⌝ }
 {
-    let mut text = [0u8; TEXT_ROOM];
+    let mut text = [0u8; LONGEST_TEXT];
     let n = put_text(&mut text, rec);
     fill(out, &text[..n]);
     n

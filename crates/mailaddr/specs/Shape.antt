@@ -11,9 +11,9 @@ use Rattle.chars.specs.Class.{between, isQuotable}
 use Rattle.chars.specs.Parts.{isAtoms, run}
 use Rattle.chars.specs.Spaces.{wellSpaced}
 
--- document 01: refusal 2, "the address is over 2,048 bytes"
+-- request 12, refusal 2: "an address over 2,304 bytes"
 abbrev pub longestAddress : ℕ
-longestAddress = 2048
+longestAddress = 2304
 
 -- An address of the accepted shape: "a local part, `@`, a domain".
 pub record Address : Type 0 where

@@ -16,7 +16,7 @@ ghost use Rattle.mailaddr.specs.Answers.{closingAnswer, fromShape, local
 ghost use Rattle.mailaddr.specs.Shape.{closing, escaped, isReadable, isText, more, plainShape, quotedLocal, quotedShape, unescaped, withLocal};
 
 // The longest address.
-pub const LONGEST_ADDRESS: usize = 2048;
+pub const LONGEST_ADDRESS: usize = 2304;
 
 // Where the `@` of an address stands: the local part is before it and the domain behind it; and whether the local part is a
 // quoted string.

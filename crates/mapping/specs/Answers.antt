@@ -13,15 +13,17 @@ use Rattle.oraddr.specs.Canonical.{canonicalRecord}
 use Rattle.ortext_read.specs.Apply.{again, read, readLocal, refused, unread}
 use Rattle.ortext_segments.specs.Keys.{keys}
 use Rattle.oraddr.specs.declared.record.Record.{Record}
-use Rattle.ortext_write.specs.Write.{localText, remaining}
+use Rattle.ortext_write.specs.Write.{localText, longestText, remaining}
 use Rattle.mailaddr.specs.Answers.{addressAt, shaped}
 use Rattle.mailaddr.specs.Domain.{isDomain}
 use Rattle.mailaddr.specs.Shape.{Address, addressText, isReadable}
 use Rattle.mailaddr.specs.declared.shape.Parted.{Parted}
+use Rattle.table.specs.Lines.{longestGatewayDomain}
 use Rattle.table.specs.Table.{Table, Token}
 use Rattle.table.specs.Rows.{RowInside, between, rowAt, rowsAt}
 use Rattle.table.specs.declared.line as line
 use Rattle.table.specs.declared.load as load
+use Rattle.table_lookup.specs.Looked.{levelsRoom}
 use Rattle.mapping.specs.Carried.{resultOf}
 use Rattle.mapping.specs.Results.{AddressResult, RecordResult}
 use Rattle.mapping.specs.ToAddress.{Plan, extended, plan, planUnder}
@@ -106,12 +108,12 @@ isGood (read r) = canonicalRecord r
 abbrev pub recordParted : Table → List ℕ → Parted → RecordResult
 recordParted t s p = recordBy t s (shaped (addressAt s p))
 
--- room for any local part, and for any address
+-- Room for any local part; for one in quotes, its `@`, the levels in front of a domain, each with a dot, and the domain: any address.
 abbrev pub localRoom : ℕ
-localRoom = 1792
+localRoom = longestText
 
 abbrev pub addressRoom : ℕ
-addressRoom = 2560
+addressRoom = localRoom + 3 + levelsRoom + levelCount + longestGatewayDomain
 
 -- A text at the front of a buffer, which behind it is as before.
 pub record Fronted (o : Option (List ℕ)) (old : List ℕ) (n : ℕ) (new : List ℕ) : Type 0 where

@@ -1,6 +1,7 @@
 // A record's eight levels, flattened into a buffer once, so that no record goes through the look-up.
 use chars::write::put;
 use oraddr::bounds::LEVELS;
+use oraddr::bounds::VALUE_ROOM;
 use oraddr::record::Record;
 ghost use mathlib.Core.Path.{_≡_};
 ghost use mathlib.Core.List.{[]};
@@ -14,10 +15,10 @@ ghost use Rattle.table_lookup.specs.Looked.{levelsRoom};
 ghost use Rattle.oraddr.specs.Bounds.{levelCount, boundOf, O};
 
 // Room for eight levels, each at most as long as the longest.
-pub const LEVELS_ROOM: usize = 512;
+pub const LEVELS_ROOM: usize = LEVELS * VALUE_ROOM;
 
 // Room for where the first begins, and where each ends.
-pub const ENDS_ROOM: usize = 9;
+pub const ENDS_ROOM: usize = LEVELS + 1;
 
 // Writes level k.
 fn put_level(dst: &mut [u8], at: usize, rec: Record, k: usize) -> usize

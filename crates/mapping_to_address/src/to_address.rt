@@ -16,7 +16,9 @@ use mapping::answers::refused;
 use oraddr::bounds::LEVELS;
 use oraddr::record::Record;
 use oraddr_canonical::canonical::is_canonical;
+use ortext_write::write::LONGEST_TEXT;
 use ortext_write::write::write_local;
+use table::line::LONGEST_GATEWAY_DOMAIN;
 use table::line::Row;
 use table::load::Loaded;
 use table::load::TableRead;
@@ -47,10 +49,10 @@ ghost use Rattle.mapping.specs.Flat.{Flat, fronts};
 ghost use Rattle.mapping.specs.ToAddress.{addressOf, recordToAddress, toAddress, toAddressBy};
 ghost use Rattle.oraddr.specs.Bounds.{levelCount};
 
-// Room for any local part, and for any address.
-const LOCAL_ROOM: usize = 1792;
+// Room for any local part; for one in quotes, its `@`, the levels in front of a domain, each with a dot, and the domain: any address.
+const LOCAL_ROOM: usize = LONGEST_TEXT;
 
-pub const ADDRESS_ROOM: usize = 2560;
+pub const ADDRESS_ROOM: usize = LOCAL_ROOM + 3 + LEVELS_ROOM + LEVELS + LONGEST_GATEWAY_DOMAIN;
 
 // The route under a row that was found: its path is matched level by level, which tells how many levels it has.
 fn route_under(text: &[u8], row: Row, flat: &[u8], ends: &[usize]) -> Route

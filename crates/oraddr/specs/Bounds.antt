@@ -35,29 +35,33 @@ I = 6
 abbrev pub GQ : ℕ
 GQ = 7
 
+abbrev pub CN : ℕ
+CN = 8
+
 abbrev pub OU : ℕ
-OU = 8
+OU = 9
 
 abbrev pub DD-TYPE : ℕ
-DD-TYPE = 9
+DD-TYPE = 10
 
 abbrev pub DD-VALUE : ℕ
-DD-VALUE = 10
+DD-VALUE = 11
 
 abbrev pub C-LETTERS : ℕ
-C-LETTERS = 11
+C-LETTERS = 12
 
 -- document 01: "C: two letters or three digits. ... ADMD 16, PRMD 16, O 64, OU 32, surname S 40, given name G 16, initials
--- I 5, generation GQ 3, domain defined (DD) type 8, value 128". The entry of C is its three digits; its two letters stand last.
+-- I 5, generation GQ 3, domain defined (DD) type 8, value 128". Request 12, of the common name: "printable string, bound 64, key CN". The
+-- entry of C is its three digits; its two letters stand last.
 abbrev pub bounds : List ℕ
-bounds = 3 ∷ 16 ∷ 16 ∷ 64 ∷ 40 ∷ 16 ∷ 5 ∷ 3 ∷ 32 ∷ 8 ∷ 128 ∷ 2 ∷ []
+bounds = 3 ∷ 16 ∷ 16 ∷ 64 ∷ 40 ∷ 16 ∷ 5 ∷ 3 ∷ 64 ∷ 32 ∷ 8 ∷ 128 ∷ 2 ∷ []
 
 -- how many entries it has, and how many of them are of the attributes that a record has once
 abbrev pub entries : ℕ
-entries = 12
+entries = 13
 
 abbrev pub singleCount : ℕ
-singleCount = 8
+singleCount = 9
 
 abbrev pub boundOf : ℕ → ℕ
 boundOf k = getD bounds k 0

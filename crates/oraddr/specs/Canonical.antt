@@ -6,7 +6,7 @@ use mathlib.Core.List.{List, [], _∷_}
 use lib.Dec.{leb}
 use lib.ListN.{length}
 use Rattle.chars.specs.Lists.{all, nonEmpty}
-use Rattle.oraddr.specs.Bounds.{C, ADMD, S, G, I, GQ, OU, DD-TYPE, DD-VALUE, most, isValue, rule}
+use Rattle.oraddr.specs.Bounds.{C, ADMD, S, G, I, GQ, CN, OU, DD-TYPE, DD-VALUE, most, isValue, rule}
 use Rattle.oraddr.specs.Attributes.{Attributes, Dd, singleOf}
 use Rattle.oraddr.specs.View.{inRange, view, singlesInRange, singlesView, unitsInRange, unitsView, ddsInRange, ddsView}
 use Rattle.oraddr.specs.declared.record.Singles.{Singles}
@@ -54,10 +54,10 @@ namesWithSurname a =
     nonEmpty (singleOf a S)
     || not (nonEmpty (singleOf a G)) && not (nonEmpty (singleOf a I)) && not (nonEmpty (singleOf a GQ))
 
--- document 01: "S or at least one DD is present"
+-- request 12: "A canonical record now has S, a common name or at least one DD."
 unfoldable pub identified : Attributes → Bool
 unfolding singleOf nonEmpty
-identified a = nonEmpty (singleOf a S) || nonEmpty (a .dds)
+identified a = nonEmpty (singleOf a S) || nonEmpty (singleOf a CN) || nonEmpty (a .dds)
 
 -- document 01: "canonical", sentence by sentence
 unfoldable pub canonical : Attributes → Bool

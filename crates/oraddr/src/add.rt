@@ -1,6 +1,7 @@
 // Adding attributes to a record, one at a time (document 01, "The record").
 use crate::bounds::ADMD;
 use crate::bounds::C;
+use crate::bounds::CN;
 use crate::bounds::DD_TYPE;
 use crate::bounds::DD_VALUE;
 use crate::bounds::G;
@@ -34,6 +35,7 @@ pub enum Attribute {
     G,
     I,
     Gq,
+    Cn,
 }
 
 // The answer to an addition: done, document 01's number 0, or refused, its number 4.
@@ -61,6 +63,7 @@ pub fn place(a: Attribute) -> usize
         Attribute::G => G,
         Attribute::I => I,
         Attribute::Gq => GQ,
+        Attribute::Cn => CN,
     }
 }
 

@@ -23,19 +23,21 @@ pub const I: usize = 6;
 
 pub const GQ: usize = 7;
 
-pub const OU: usize = 8;
+pub const CN: usize = 8;
 
-pub const DD_TYPE: usize = 9;
+pub const OU: usize = 9;
 
-pub const DD_VALUE: usize = 10;
+pub const DD_TYPE: usize = 10;
 
-pub const C_LETTERS: usize = 11;
+pub const DD_VALUE: usize = 11;
+
+pub const C_LETTERS: usize = 12;
 
 // How many attributes a record has once.
-pub const SINGLES: usize = 8;
+pub const SINGLES: usize = 9;
 
 // How many entries the table has.
-pub const ENTRIES: usize = 12;
+pub const ENTRIES: usize = 13;
 
 // How many levels there are: C, ADMD, PRMD, O, OU1 to OU4.
 pub const LEVELS: usize = 8;
@@ -56,13 +58,14 @@ pub const BOUNDS: [usize; ENTRIES] = [
     16, // G
     5, // I
     3, // GQ
+    64, // CN
     32, // OU
     8, // DD_TYPE
     128, // DD_VALUE
     2, // C_LETTERS
 ];
 
-// The rooms of the record's texts, from the table. O has the largest bound of the attributes that a record has once.
+// The rooms of the record's texts, from the table. No attribute that a record has once has a larger bound than O.
 pub const VALUE_ROOM: usize = BOUNDS[O];
 
 pub const OU_ROOM: usize = BOUNDS[OU];

@@ -1,6 +1,7 @@
 // The canonical test, part by part. A record is any input: one with a length or a count out of range is not canonical.
 use oraddr::bounds::ADMD;
 use oraddr::bounds::C;
+use oraddr::bounds::CN;
 use oraddr::bounds::DD_TYPE;
 use oraddr::bounds::DD_VALUE;
 use oraddr::bounds::G;
@@ -150,11 +151,14 @@ fn has_names_with_surname(rec: Record) -> bool
     !has(rec, GQ)
 }
 
-// S or at least one DD.
+// S, a common name or at least one DD.
 fn is_identified(rec: Record) -> bool
     ensures { λ r. ⌜ r ≡ identified (view rec) ⌝ }
 {
     if has(rec, S) {
+        return true;
+    }
+    if has(rec, CN) {
         return true;
     }
     let dds = rec.dds;

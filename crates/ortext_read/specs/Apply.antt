@@ -8,7 +8,7 @@ use mathlib.Core.Option.{Option, none, some}
 use lib.Dec.{leb, eqb}
 use lib.ListN.{length, getD}
 use Rattle.chars.specs.Lists.{all, nonEmpty}
-use Rattle.oraddr.specs.Bounds.{ADMD, C, G, GQ, I, O, PRMD, S, ownLevels}
+use Rattle.oraddr.specs.Bounds.{ADMD, C, CN, G, GQ, I, O, PRMD, S, ownLevels}
 use Rattle.oraddr.specs.Attributes.{Attributes, Dd, singleOf}
 use Rattle.oraddr.specs.Add.{Outcome, addSingle}
 use Rattle.oraddr.specs.View.{view}
@@ -40,7 +40,7 @@ hasUnknown gs = nonEmpty (valuesAt unknown gs)
 
 -- the keys of the attributes that a record has once
 abbrev pub singleKeys : List ℕ
-singleKeys = C ∷ ADMD ∷ PRMD ∷ O ∷ S ∷ G ∷ I ∷ GQ ∷ []
+singleKeys = C ∷ ADMD ∷ PRMD ∷ O ∷ S ∷ G ∷ I ∷ GQ ∷ CN ∷ []
 
 -- "a key other than OU, DD and the short DD keys is repeated"
 unfoldable pub hasRepeated : List Segment → Bool
@@ -75,7 +75,7 @@ withName gs (some n) =
     some (record {
       single =
           valueAt C gs ∷ valueAt ADMD gs ∷ valueAt PRMD gs ∷ valueAt O gs
-          ∷ n .surname ∷ n .given ∷ n .initials ∷ valueAt GQ gs ∷ [];
+          ∷ n .surname ∷ n .given ∷ n .initials ∷ valueAt GQ gs ∷ valueAt CN gs ∷ [];
       units = reverse (valuesAt OU-KEY gs);
       dds = ddsOf gs;
     })
@@ -89,7 +89,7 @@ named gs = cond (hasUnknown gs || hasRepeated gs || pnMeets gs || hasEmpty gs) n
 unfoldable pub nameAlone : Name → Attributes
 nameAlone n =
     record {
-      single = [] ∷ [] ∷ [] ∷ [] ∷ n .surname ∷ n .given ∷ n .initials ∷ [] ∷ [];
+      single = [] ∷ [] ∷ [] ∷ [] ∷ n .surname ∷ n .given ∷ n .initials ∷ [] ∷ [] ∷ [];
       units = [];
       dds = [];
     }

@@ -14,31 +14,31 @@ use Rattle.ortext_segments.specs.declared.keys.KeyName.{KeyName}
 
 -- The numbers of keys: first the attributes that a record has once (`singleCount`), by their numbers in the table of bounds; then these.
 abbrev pub OU-KEY : ℕ
-OU-KEY = 8
+OU-KEY = 9
 
 abbrev pub DD-KEY : ℕ
-DD-KEY = 9
+DD-KEY = 10
 
 abbrev pub PN-KEY : ℕ
-PN-KEY = 10
+PN-KEY = 11
 
 -- from this number on, a table's entries are short keys, each for the DD type that it spells
 abbrev pub SHORT-KEYS : ℕ
-SHORT-KEYS = 11
+SHORT-KEYS = 12
 
 -- a table of keys: their spellings, in the order of the numbers above
 abbrev pub Keys : Type 0
 Keys = List (List ℕ)
 
--- document 01: "Keys, case aside: C, ADMD, PRMD, O, OU, S, G, I, GQ, PN, `DD.` and a type, and RFC-822, short for `DD.RFC-822`"
+-- document 01: "Keys, case aside: C, ADMD, PRMD, O, OU, S, G, I, GQ, PN, `DD.` and a type, and RFC-822, short for `DD.RFC-822`"; request 12: "key CN"
 unfoldable pub keys : Keys
 unfolding bytes
 keys =
     bytes "C" ∷ bytes "ADMD" ∷ bytes "PRMD" ∷ bytes "O" ∷ bytes "S" ∷ bytes "G" ∷ bytes "I" ∷ bytes "GQ"
-    ∷ bytes "OU" ∷ bytes "DD" ∷ bytes "PN" ∷ bytes "RFC-822" ∷ []
+    ∷ bytes "CN" ∷ bytes "OU" ∷ bytes "DD" ∷ bytes "PN" ∷ bytes "RFC-822" ∷ []
 
 abbrev pub keyCount : ℕ
-keyCount = 12
+keyCount = 13
 
 -- an entry of the code's table is a key: what it has as its text
 pub record Spells (n : KeyName) (key : List ℕ) : Type 0 where

@@ -18,7 +18,7 @@ pub record Segment : Type 0 where
   pub value : List ℕ
 
 abbrev pub unknown : ℕ
-unknown = 11
+unknown = 12
 
 -- A quoted character is its byte and 256 more, so that it is no separator; `plain` takes the mark off again.
 abbrev pub mark : ℕ

@@ -30,19 +30,21 @@ const I_KEY: usize = 6;
 
 const GQ_KEY: usize = 7;
 
-pub const OU_KEY: usize = 8;
+const CN_KEY: usize = 8;
 
-pub const DD_KEY: usize = 9;
+pub const OU_KEY: usize = 9;
 
-pub const PN_KEY: usize = 10;
+pub const DD_KEY: usize = 10;
+
+pub const PN_KEY: usize = 11;
 
 // From this number on the entries are short keys, each for the DD type that it spells.
-pub const SHORT_KEYS: usize = 11;
+pub const SHORT_KEYS: usize = 12;
 
 // A key that no entry spells, or DD with no dot.
-pub const UNKNOWN: usize = 11;
+pub const UNKNOWN: usize = 12;
 
-pub const KEY_COUNT: usize = 12;
+pub const KEY_COUNT: usize = 13;
 
 // The key with the number k. It is a match and no array: a constant array is built anew on the stack at each use.
 pub fn key_name(k: usize) -> KeyName
@@ -81,6 +83,10 @@ pub fn key_name(k: usize) -> KeyName
         GQ_KEY => KeyName {
             len: 2,
             bytes: *b"GQ\0\0\0\0\0",
+        },
+        CN_KEY => KeyName {
+            len: 2,
+            bytes: *b"CN\0\0\0\0\0",
         },
         OU_KEY => KeyName {
             len: 2,
@@ -123,6 +129,9 @@ fn two_letters(s: &[u8]) -> usize
 {
     if same_text(b"GQ", s) {
         return GQ_KEY;
+    }
+    if same_text(b"CN", s) {
+        return CN_KEY;
     }
     if same_text(b"OU", s) {
         return OU_KEY;

@@ -1,12 +1,12 @@
 -- Document 01, "Record to address": record text and the short name form, written.
 -- Assumes nothing.
-use Prim.Native.Nat.{ℕ, _-_, min}
+use Prim.Native.Nat.{ℕ, _+_, _*_, _-_, min}
 use mathlib.Core.Bool.{Bool, _&&_, _||_, not, cond}
 use mathlib.Core.List.{List, [], _∷_, _++_, map, reverse}
 use lib.Dec.{ltb, eqb}
 use lib.ListN.{length, getD, take, drop, replicate}
 use Rattle.chars.specs.Lists.{all, nonEmpty}
-use Rattle.oraddr.specs.Bounds.{ADMD, C, G, GQ, I, O, PRMD, S, ownLevels}
+use Rattle.oraddr.specs.Bounds.{ADMD, C, CN, DD-TYPE, DD-VALUE, G, GQ, I, O, OU, PRMD, S, boundOf, most, ownLevels}
 use Rattle.oraddr.specs.Attributes.{Attributes, Dd, singleOf}
 use Rattle.ortext_segments.specs.Keys.{Keys, OU-KEY, DD-KEY, SHORT-KEYS, keyNumber}
 use Rattle.ortext_name.specs.Name.{Name, isShort, nameText}
@@ -55,9 +55,10 @@ unfoldable pub segmentsText : Keys → List Segment → List ℕ
 unfolding joined
 segmentsText ks gs = joined ks gs ++ (47 ∷ [])
 
--- "order: DDs, G, I, S, GQ, OUs least significant first, O, PRMD, ADMD, C", by the numbers of their keys
+-- "order: DDs, G, I, S, GQ, OUs least significant first, O, PRMD, ADMD, C", by the numbers of their keys; request 12: CN is "written after the DDs and
+-- before G"
 abbrev pub order : List ℕ
-order = DD-KEY ∷ G ∷ I ∷ S ∷ GQ ∷ OU-KEY ∷ O ∷ PRMD ∷ ADMD ∷ C ∷ []
+order = DD-KEY ∷ CN ∷ G ∷ I ∷ S ∷ GQ ∷ OU-KEY ∷ O ∷ PRMD ∷ ADMD ∷ C ∷ []
 
 unfoldable pub ddSegment : Dd → Segment
 ddSegment d = record { key = DD-KEY; kind = d .kind; value = d .value }
@@ -95,10 +96,12 @@ unfoldable pub nameIn : Attributes → Name
 unfolding singleOf
 nameIn a = record { given = singleOf a G; initials = singleOf a I; surname = singleOf a S }
 
--- "If only a name is left"
+-- "If only a name is left"; request 12: "The short name form is used only if no common name is left."
 unfoldable pub onlyName : Attributes → Bool
-unfolding all nonEmpty
-onlyName a = all (λ s. not (nonEmpty s)) (take ownLevels (a .single)) && not (nonEmpty (a .units)) && not (nonEmpty (a .dds))
+unfolding all nonEmpty singleOf
+onlyName a =
+    all (λ s. not (nonEmpty s)) (take ownLevels (a .single))
+    && not (nonEmpty (a .units)) && not (nonEmpty (a .dds)) && not (nonEmpty (singleOf a CN))
 
 unfoldable pub writesShort : Attributes → Bool
 unfolding onlyName isShort nameIn singleOf
@@ -109,9 +112,25 @@ unfoldable pub localText : Keys → Attributes → List ℕ
 unfolding writesShort nameText nameIn recordText
 localText ks a = cond (writesShort a) (nameText (nameIn a)) (recordText ks a)
 
--- The longest record text that a canonical record can have: the greatest bounds, each value quoted throughout.
+-- The longest record text that a canonical record can have, by the table of bounds: every attribute, each value but C's quoted throughout. A
+-- segment is a slash, its key, an equals sign and the value.
+abbrev pub quotedMost : ℕ → ℕ
+quotedMost k = 2 * boundOf k
+
+abbrev pub ddMost : ℕ
+ddMost = 5 + quotedMost DD-TYPE + quotedMost DD-VALUE
+
+abbrev pub unitMost : ℕ
+unitMost = 4 + quotedMost OU
+
+abbrev pub namesMost : ℕ
+namesMost = (4 + quotedMost CN) + (3 + quotedMost G) + (3 + quotedMost I) + (3 + quotedMost S) + (4 + quotedMost GQ)
+
+abbrev pub levelsMost : ℕ
+levelsMost = most * unitMost + (3 + quotedMost O) + (6 + quotedMost PRMD) + (6 + quotedMost ADMD) + (3 + boundOf C)
+
 abbrev pub longestText : ℕ
-longestText = 1735
+longestText = most * ddMost + namesMost + levelsMost + 1
 
 -- ---- what comes back of it
 

@@ -2,11 +2,17 @@
 use chars::case::same_text;
 use chars::write::put;
 use oraddr::bounds::ADMD;
+use oraddr::bounds::BOUNDS;
 use oraddr::bounds::C;
+use oraddr::bounds::CN;
+use oraddr::bounds::DD_TYPE;
+use oraddr::bounds::DD_VALUE;
 use oraddr::bounds::G;
 use oraddr::bounds::GQ;
 use oraddr::bounds::I;
+use oraddr::bounds::MOST;
 use oraddr::bounds::O;
+use oraddr::bounds::OU;
 use oraddr::bounds::OWN_LEVELS;
 use oraddr::bounds::PRMD;
 use oraddr::bounds::S;
@@ -39,7 +45,27 @@ ghost use Rattle.ortext_name.specs.Name.{isShort, nameText};
 ghost use Rattle.ortext_write.specs.Write.{ddSegment, hasShort, joined, keyValue, localText, longDd, onlyName, order, plainSegment, quoted, recordText, remaining, segmentText, segmentsAt, segmentsIn, writesShort};
 
 // The order in which record text is written, by the numbers of the keys: those before PN, which is read only.
-const ORDER: [usize; PN_KEY] = [DD_KEY, G, I, S, GQ, OU_KEY, O, PRMD, ADMD, C];
+const ORDER: [usize; PN_KEY] = [DD_KEY, CN, G, I, S, GQ, OU_KEY, O, PRMD, ADMD, C];
+
+// The longest record text that a canonical record can have: the segments of all attributes, a slash, the key, an equals sign and the value each,
+// every character of the values quoted but C's; and the last slash.
+const DD_MOST: usize = 5 + 2 * BOUNDS[DD_TYPE] + 2 * BOUNDS[DD_VALUE];
+
+const UNIT_MOST: usize = 4 + 2 * BOUNDS[OU];
+
+const NAMES_MOST: usize = (4 + 2 * BOUNDS[CN])
+    + (3 + 2 * BOUNDS[G])
+    + (3 + 2 * BOUNDS[I])
+    + (3 + 2 * BOUNDS[S])
+    + (4 + 2 * BOUNDS[GQ]);
+
+const LEVELS_MOST: usize = MOST * UNIT_MOST
+    + (3 + 2 * BOUNDS[O])
+    + (6 + 2 * BOUNDS[PRMD])
+    + (6 + 2 * BOUNDS[ADMD])
+    + (3 + BOUNDS[C]);
+
+pub const LONGEST_TEXT: usize = MOST * DD_MOST + NAMES_MOST + LEVELS_MOST + 1;
 
 // Writes a character, with `$` before a slash or an equals sign.
 fn put_char(dst: &mut [u8], at: usize, b: u8) -> usize
@@ -282,6 +308,9 @@ fn is_only_name(rec: Record, from: usize) -> bool
     }
     let units = rec.units;
     if units_out(from) < units.size() {
+        return false;
+    }
+    if 0 < rec.single(CN).size() {
         return false;
     }
     let dds = rec.dds;

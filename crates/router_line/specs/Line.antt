@@ -13,6 +13,7 @@ use Rattle.ortext_segments.specs.Keys.{keys}
 use Rattle.ortext_write.specs.Write.{recordText}
 use Rattle.table.specs.Lines.{TableOutcome, malformed, wellFormed}
 use Rattle.table.specs.Table.{Table}
+use Rattle.mapping.specs.Answers.{addressRoom}
 use Rattle.mapping.specs.Results.{RecordResult}
 use Rattle.mapping.specs.ToAddress.{addressOf}
 use Rattle.mapping.specs.ToRecord.{toRecordBy}
@@ -21,13 +22,13 @@ use Rattle.mapping.specs.ToRecord.{toRecordBy}
 abbrev pub longestLine : ℕ
 longestLine = 4096
 
--- Room for any line of output: a number, a tab, a text and an LF.
-abbrev pub answerRoom : ℕ
-answerRoom = 2563
-
 -- where the other form stands in an answer: behind the number and a tab
 abbrev pub textAt : ℕ
 textAt = 2
+
+-- Room for any line of output: a number, a tab, a text and an LF.
+abbrev pub answerRoom : ℕ
+answerRoom = textAt + addressRoom + 1
 
 -- "It prints the number, and on 0 a tab and the other form."
 unfoldable pub doneLine : List ℕ → List ℕ

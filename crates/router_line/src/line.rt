@@ -33,13 +33,14 @@ ghost use Rattle.mapping.specs.ToRecord.{toRecord, toRecordBy};
 ghost use Rattle.router_line.specs.Line.{answerRoom, doneLine, lineAnswer, readLine, recordLine, refusedLine, taggedLine, textAt, textLine};
 ghost use Rattle.router_line.specs.Ready.{Placed};
 
-// The longest line, and room for any answer.
+// The longest line.
 pub const LONGEST_LINE: usize = 4096;
-
-pub const ANSWER_ROOM: usize = 2563;
 
 // Where the other form stands in an answer: behind the number and a tab.
 const TEXT_AT: usize = 2;
+
+// Room for any answer: an address's, which is longer than any record text, and an LF.
+pub const ANSWER_ROOM: usize = TEXT_AT + ADDRESS_ROOM + 1;
 
 // Where the next answer goes, or that this one does not fit.
 pub enum Placing {

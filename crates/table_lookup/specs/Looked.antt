@@ -4,7 +4,7 @@ use mathlib.Core.Path.{_≡_}
 use mathlib.Core.Bool.{Bool, true, false, not}
 use mathlib.Core.List.{List, [], _∷_, _++_}
 use mathlib.Core.Option.{Option, none, some}
-use Prim.Native.Nat.{ℕ, zero, suc, _+_, _≤_, _<_}
+use Prim.Native.Nat.{ℕ, zero, suc, _+_, _*_, _≤_, _<_}
 use lib.Dec.{eqb}
 use lib.ListN.{length, getD}
 use Rattle.chars.specs.Lists.{all}
@@ -15,7 +15,7 @@ use Rattle.table_lookup.specs.declared.level.LevelKind.{LevelKind}
 use Rattle.table_lookup.specs.declared.level.LevelKind.the-variants.{Named, Omitted, NotReached}
 use Rattle.table_lookup.specs.declared.search.Found.{Found}
 use Rattle.table_lookup.specs.declared.search.Found.the-variants.{At, Nowhere}
-use Rattle.oraddr.specs.Bounds.{levelCount}
+use Rattle.oraddr.specs.Bounds.{O, boundOf, levelCount}
 
 -- a level is reached, and where it is named it stands in the text
 unfoldable pub isReached : LevelKind → Bool
@@ -67,7 +67,7 @@ tabbed (t ∷ ts) = 9 ∷ (t ++ tabbed ts)
 
 -- room for the eight levels, each at most as long as the longest
 abbrev pub levelsRoom : ℕ
-levelsRoom = 512
+levelsRoom = levelCount * boundOf O
 
 -- Levels that can be looked up as a path: they are there, have room, and no tab is in any.
 pub record Laid (s ends : List ℕ) : Type 0 where
