@@ -162,6 +162,13 @@ def record_text(record):
     return b"".join(b"/" + k + b"=" + quote(v) for k, v in parts) + b"/"
 
 
+def longest_record():
+    """The record with the longest text: every bound is full, and `$` is written before each character but C's."""
+    full = {key: b"=" * bound for key, bound in BOUND.items()}
+    units = [full.pop("OU")] * 4
+    return {"one": {**full, "C": b"123"}, "OU": units, "DD": [(b"=" * 8, b"=" * 128)] * 4}
+
+
 def short_form(record):
     """The short form of a record of which only a name is left, or None."""
     one = record["one"]

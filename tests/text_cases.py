@@ -55,7 +55,8 @@ POINTS = [
 ]
 # Common names: alone, beside each other key, twice, empty, against their rule, and as long as they may be.
 COMMON = [
-    b"/CN=x/", b"/cn=Night Desk/", b"/S=Lee/CN=Desk/", b"/CN=Desk/G=Ann/S=Lee/", b"/Cn=Night Desk/C=XY/", b"/CN=Night Desk/S=Lee/C=XY/", b"/S=Lee/G=Ann/I=M/GQ=II/CN=Desk/C=XY/", b"/CN=a/G=Ann/C=XY/",
+    b"/CN=x/", b"/cn=Night Desk/", b"/S=Lee/CN=Desk/", b"/CN=Desk/G=Ann/S=Lee/", b"/Cn=Night Desk/C=XY/",
+    b"/CN=Night Desk/S=Lee/C=XY/", b"/S=Lee/G=Ann/I=M/GQ=II/CN=Desk/C=XY/", b"/CN=a/G=Ann/C=XY/",
     b"/CN=a/I=M/C=XY/", b"/CN=a/GQ=II/C=XY/", b"/CN=a/DD.t=v/RFC-822=x/C=XY/", b"/RFC-822=x/CN=a/C=XY/", b"/CN=a/OU=u/OU=v/O=o/PRMD=p/ADMD=q/C=XY/",
     b"/CN=a/CN=a/C=XY/", b"/CN=a/cn=b/S=Lee/C=XY/", b"/CN=/CN=/C=XY/", b"/CN=/C=XY/", b"/CN=/S=Lee/C=XY/", b"/CN=/", b"/CN=a/PN=Lee/C=XY/",
     b"/PN=Ann.M.Lee/CN=a/C=XY/", b"/PN=Ann./CN=a/C=XY/", b"/PN=Lee/CN=a/S=Lee/C=XY/", b"/CN=a/PN=Lee/PN=Lee/C=XY/", b"/CN=$/S$=a$//C=XY/",
@@ -68,13 +69,6 @@ LOCALS = [
     b"a.b", b"ab.c", b".a", b"a..b", b"12.3.", b"1.b", b"A.B.", b"ab.", b"Ann.Lee", b"Ann./b", b"Lee", b"", b".", b"..", b"a.", b"ab",
     b"x" * 41, b"g" * 17 + b".Lee", b"A.B.C.D.E.F.Lee", b"/a", b"Ann.M.T.Lee", b"/S=a=b/", b"/FOO.x=1/", b"/S=Lee", b"Ann.a.b",
 ]
-
-
-def longest():
-    """The longest text of a record: every bound is full, and `$` stands before each character but those of C."""
-    full = lambda key: b"=" * rules.BOUND[key]
-    one = {key: full(key) for key in rules.SINGLES if key != "C"}
-    return rules.record_text({"one": {**one, "C": b"123"}, "OU": [full("OU")] * 4, "DD": [(b"=" * 8, b"=" * 128)] * 4})
 
 
 def read(command, digit, text):
@@ -122,8 +116,9 @@ def random_text(rng):
 
 def main():
     cases = [("N", 0, t) for t in NAMES + LOCALS]
-    assert len(longest()) == LONGEST_TEXT
-    for t in TEXTS + POINTS + COMMON + [longest()] + LOCALS + NAMES:
+    longest = rules.record_text(rules.longest_record())
+    assert len(longest) == LONGEST_TEXT
+    for t in TEXTS + POINTS + COMMON + [longest] + LOCALS + NAMES:
         if b"\n" not in t:
             cases += [(c, d, t) for c in "TL" for d in (0, 2, 3, 4, 6, 8, 9)]
     rng = random.Random(2)
