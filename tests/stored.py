@@ -8,9 +8,9 @@ import sys
 SETS = ["tests/vectors/", "tests/vectors/common-names/"]
 
 
-def runs():
+def runs(sets=SETS):
     """The folders of the runs of `orroute`: table.tsv, stdin and expected in each."""
-    folders = [folder for where in SETS for folder in sorted(glob.glob(where + "runs/*/"))]
+    folders = [folder for where in sets for folder in sorted(glob.glob(where + "runs/*/"))]
     if not folders:
         sys.exit("no stored runs: run it from the repository's root")
     return folders
