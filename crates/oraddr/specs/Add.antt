@@ -6,7 +6,7 @@ use mathlib.Core.Bool.{Bool, _&&_, cond}
 use mathlib.Core.List.{List, []}
 use lib.Dec.{eqb, ltb}
 use lib.ListN.{getD, set}
-use Rattle.oraddr.specs.Bounds.{C, ADMD, PRMD, O, S, G, I, GQ, CN, most, rule}
+use Rattle.oraddr.specs.Bounds.{C, ADMD, PRMD, O, CN, S, G, I, GQ, most, rule}
 use Rattle.oraddr.specs.Canonical.{isUnit, isDd}
 use Rattle.oraddr.specs.View.{valueOf, orgUnitOf, domainDefinedOf}
 use Rattle.oraddr.specs.declared.value.DomainDefined.{DomainDefined}
@@ -26,11 +26,11 @@ placeOf attribute.the-variants.C = C
 placeOf attribute.the-variants.Admd = ADMD
 placeOf attribute.the-variants.Prmd = PRMD
 placeOf attribute.the-variants.O = O
+placeOf attribute.the-variants.Cn = CN
 placeOf attribute.the-variants.S = S
 placeOf attribute.the-variants.G = G
 placeOf attribute.the-variants.I = I
 placeOf attribute.the-variants.Gq = GQ
-placeOf attribute.the-variants.Cn = CN
 
 -- what a caller is told: document 01's number, and the record
 pub record Outcome : Type 0 where

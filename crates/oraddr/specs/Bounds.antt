@@ -23,20 +23,20 @@ PRMD = 2
 abbrev pub O : ℕ
 O = 3
 
+abbrev pub CN : ℕ
+CN = 4
+
 abbrev pub S : ℕ
-S = 4
+S = 5
 
 abbrev pub G : ℕ
-G = 5
+G = 6
 
 abbrev pub I : ℕ
-I = 6
+I = 7
 
 abbrev pub GQ : ℕ
-GQ = 7
-
-abbrev pub CN : ℕ
-CN = 8
+GQ = 8
 
 abbrev pub OU : ℕ
 OU = 9
@@ -54,7 +54,7 @@ C-LETTERS = 12
 -- I 5, generation GQ 3, domain defined (DD) type 8, value 128". Request 12, of the common name: "printable string, bound 64, key CN". The
 -- entry of C is its three digits; its two letters stand last.
 abbrev pub bounds : List ℕ
-bounds = 3 ∷ 16 ∷ 16 ∷ 64 ∷ 40 ∷ 16 ∷ 5 ∷ 3 ∷ 64 ∷ 32 ∷ 8 ∷ 128 ∷ 2 ∷ []
+bounds = 3 ∷ 16 ∷ 16 ∷ 64 ∷ 64 ∷ 40 ∷ 16 ∷ 5 ∷ 3 ∷ 32 ∷ 8 ∷ 128 ∷ 2 ∷ []
 
 -- how many entries it has, and how many of them are of the attributes that a record has once
 abbrev pub entries : ℕ

@@ -31,11 +31,11 @@ pub enum Attribute {
     Admd,
     Prmd,
     O,
+    Cn,
     S,
     G,
     I,
     Gq,
-    Cn,
 }
 
 // The answer to an addition: done, document 01's number 0, or refused, its number 4.
@@ -59,11 +59,11 @@ pub fn place(a: Attribute) -> usize
         Attribute::Admd => ADMD,
         Attribute::Prmd => PRMD,
         Attribute::O => O,
+        Attribute::Cn => CN,
         Attribute::S => S,
         Attribute::G => G,
         Attribute::I => I,
         Attribute::Gq => GQ,
-        Attribute::Cn => CN,
     }
 }
 

@@ -6,7 +6,7 @@ ghost use mathlib.Core.Path.{_≡_};
 ghost use Prim.Native.Nat.{_<_};
 ghost use Rattle.oraddr.specs.Bounds.{boundOf, entries, isCountry, isSpace, isValue, rule};
 
-// The entries of the table. The first SINGLES are the attributes that a record has once.
+// The entries of the table. The first SINGLES are the attributes that a record has once: the levels among them, the common name, the personal name.
 pub const C: usize = 0;
 
 pub const ADMD: usize = 1;
@@ -15,15 +15,15 @@ pub const PRMD: usize = 2;
 
 pub const O: usize = 3;
 
-pub const S: usize = 4;
+pub const CN: usize = 4;
 
-pub const G: usize = 5;
+pub const S: usize = 5;
 
-pub const I: usize = 6;
+pub const G: usize = 6;
 
-pub const GQ: usize = 7;
+pub const I: usize = 7;
 
-pub const CN: usize = 8;
+pub const GQ: usize = 8;
 
 pub const OU: usize = 9;
 
@@ -54,11 +54,11 @@ pub const BOUNDS: [usize; ENTRIES] = [
     16, // ADMD
     16, // PRMD
     64, // O
+    64, // CN
     40, // S
     16, // G
     5, // I
     3, // GQ
-    64, // CN
     32, // OU
     8, // DD_TYPE
     128, // DD_VALUE

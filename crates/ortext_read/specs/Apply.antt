@@ -40,7 +40,7 @@ hasUnknown gs = nonEmpty (valuesAt unknown gs)
 
 -- the keys of the attributes that a record has once
 abbrev pub singleKeys : List ℕ
-singleKeys = C ∷ ADMD ∷ PRMD ∷ O ∷ S ∷ G ∷ I ∷ GQ ∷ CN ∷ []
+singleKeys = C ∷ ADMD ∷ PRMD ∷ O ∷ CN ∷ S ∷ G ∷ I ∷ GQ ∷ []
 
 -- "a key other than OU, DD and the short DD keys is repeated"
 unfoldable pub hasRepeated : List Segment → Bool
@@ -74,8 +74,8 @@ withName gs none = none
 withName gs (some n) =
     some (record {
       single =
-          valueAt C gs ∷ valueAt ADMD gs ∷ valueAt PRMD gs ∷ valueAt O gs
-          ∷ n .surname ∷ n .given ∷ n .initials ∷ valueAt GQ gs ∷ valueAt CN gs ∷ [];
+          valueAt C gs ∷ valueAt ADMD gs ∷ valueAt PRMD gs ∷ valueAt O gs ∷ valueAt CN gs
+          ∷ n .surname ∷ n .given ∷ n .initials ∷ valueAt GQ gs ∷ [];
       units = reverse (valuesAt OU-KEY gs);
       dds = ddsOf gs;
     })
@@ -89,7 +89,7 @@ named gs = cond (hasUnknown gs || hasRepeated gs || pnMeets gs || hasEmpty gs) n
 unfoldable pub nameAlone : Name → Attributes
 nameAlone n =
     record {
-      single = [] ∷ [] ∷ [] ∷ [] ∷ n .surname ∷ n .given ∷ n .initials ∷ [] ∷ [] ∷ [];
+      single = [] ∷ [] ∷ [] ∷ [] ∷ [] ∷ n .surname ∷ n .given ∷ n .initials ∷ [] ∷ [];
       units = [];
       dds = [];
     }

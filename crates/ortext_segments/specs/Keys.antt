@@ -34,8 +34,8 @@ Keys = List (List ℕ)
 unfoldable pub keys : Keys
 unfolding bytes
 keys =
-    bytes "C" ∷ bytes "ADMD" ∷ bytes "PRMD" ∷ bytes "O" ∷ bytes "S" ∷ bytes "G" ∷ bytes "I" ∷ bytes "GQ"
-    ∷ bytes "CN" ∷ bytes "OU" ∷ bytes "DD" ∷ bytes "PN" ∷ bytes "RFC-822" ∷ []
+    bytes "C" ∷ bytes "ADMD" ∷ bytes "PRMD" ∷ bytes "O" ∷ bytes "CN" ∷ bytes "S" ∷ bytes "G" ∷ bytes "I" ∷ bytes "GQ"
+    ∷ bytes "OU" ∷ bytes "DD" ∷ bytes "PN" ∷ bytes "RFC-822" ∷ []
 
 abbrev pub keyCount : ℕ
 keyCount = 13

@@ -22,15 +22,15 @@ const PRMD_KEY: usize = 2;
 
 const O_KEY: usize = 3;
 
-const S_KEY: usize = 4;
+const CN_KEY: usize = 4;
 
-const G_KEY: usize = 5;
+const S_KEY: usize = 5;
 
-const I_KEY: usize = 6;
+const G_KEY: usize = 6;
 
-const GQ_KEY: usize = 7;
+const I_KEY: usize = 7;
 
-const CN_KEY: usize = 8;
+const GQ_KEY: usize = 8;
 
 pub const OU_KEY: usize = 9;
 
@@ -68,6 +68,10 @@ pub fn key_name(k: usize) -> KeyName
             len: 1,
             bytes: *b"O\0\0\0\0\0\0",
         },
+        CN_KEY => KeyName {
+            len: 2,
+            bytes: *b"CN\0\0\0\0\0",
+        },
         S_KEY => KeyName {
             len: 1,
             bytes: *b"S\0\0\0\0\0\0",
@@ -83,10 +87,6 @@ pub fn key_name(k: usize) -> KeyName
         GQ_KEY => KeyName {
             len: 2,
             bytes: *b"GQ\0\0\0\0\0",
-        },
-        CN_KEY => KeyName {
-            len: 2,
-            bytes: *b"CN\0\0\0\0\0",
         },
         OU_KEY => KeyName {
             len: 2,
@@ -127,11 +127,11 @@ fn two_letters(s: &[u8]) -> usize
     requires { ⌜ length (now s) ≡ 2 ⌝ }
     ensures { λ r. ⌜ r ≡ keyNumber keys (now (s .entry)) ⌝ }
 {
-    if same_text(b"GQ", s) {
-        return GQ_KEY;
-    }
     if same_text(b"CN", s) {
         return CN_KEY;
+    }
+    if same_text(b"GQ", s) {
+        return GQ_KEY;
     }
     if same_text(b"OU", s) {
         return OU_KEY;

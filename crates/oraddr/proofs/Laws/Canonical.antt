@@ -18,7 +18,7 @@ use Rattle.chars.proofs.Laws.Parts.{fold-is}
 use Rattle.chars.proofs.Laws.Spaces.{text-fold}
 use Rattle.chars.proofs.Laws.Seq.{some-test}
 use Rattle.oraddr.specs.Attributes.{Attributes, Dd, singleOf}
-use Rattle.oraddr.specs.Bounds.{isCountry, isSpace, isValue, most, rule, ADMD, C, DD-TYPE, G, GQ, I, OU, S}
+use Rattle.oraddr.specs.Bounds.{isCountry, isSpace, isValue, most, rule, ADMD, C, CN, DD-TYPE, G, GQ, I, OU, S}
 use Rattle.oraddr.specs.Same.{sameAttributes, sameDd}
 use Rattle.oraddr.specs.Canonical.{allKept, canonical, canonicalRecord, identified, isDd, isUnit, kept, namesWithSurname}
 use Rattle.oraddr.specs.View.{inRange, view}
@@ -171,6 +171,7 @@ module _ (a b : Attributes) (h : sameAttributes a b ≡ true) where
         same-present G,
         same-present I,
         same-present GQ,
+        same-present CN,
         kept-agree 0 (a .single) (b .single) (same-singles a b h),
         agree-length sameText (a .units) (b .units) (same-units a b h),
         all-agree sameText isUnit unit-same (a .units) (b .units) (same-units a b h),

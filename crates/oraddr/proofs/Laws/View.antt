@@ -38,6 +38,7 @@ place-low attribute.the-variants.C = lit< tt
 place-low attribute.the-variants.Admd = lit< tt
 place-low attribute.the-variants.Prmd = lit< tt
 place-low attribute.the-variants.O = lit< tt
+place-low attribute.the-variants.Cn = lit< tt
 place-low attribute.the-variants.S = lit< tt
 place-low attribute.the-variants.G = lit< tt
 place-low attribute.the-variants.I = lit< tt

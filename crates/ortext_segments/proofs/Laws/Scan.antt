@@ -17,7 +17,7 @@ use Rattle.chars.specs.Lists.{all, bytes, member, nonEmpty}
 use Rattle.chars.specs.Class.{isLabelChar, isPrintable, isLetter, isDigit, between}
 use Rattle.chars.proofs.Laws.Lists.{all-drop, and-both, by-test, true-not-false}
 use Rattle.chars.proofs.Laws.Class.{label-below}
-use Rattle.ortext_segments.specs.Keys.{keys, keyNumber, DD-KEY, SHORT-KEYS}
+use Rattle.ortext_segments.specs.Keys.{keys, keyCount, keyNumber, DD-KEY, SHORT-KEYS}
 use Rattle.ortext_segments.specs.Segments.{keyRun, mark, plainKey, plainText, readRest, segmentOf, symbols, unknown}
 use Rattle.ortext_segments.specs.Scan.{Segmenting, foundSegment, further, kindFrom, kindText, kindUpTo, spanText, stopRun, valueFrom, valueUpTo}
 use Rattle.ortext_segments.specs.declared.scan.Span.{Span}
@@ -152,8 +152,8 @@ plain-found s n v =
     (λ e. rw e)
     (λ e. by-test (ltb n SHORT-KEYS)
     (λ f. rw (e, f, e))
-    (λ f. by-test (ltb n 12)
-    (λ g. let h : n ≡ 11 = omega (arith, ltb-true n 12 g, ltb-false n SHORT-KEYS f) in rw h)
+    (λ f. by-test (ltb n keyCount)
+    (λ g. let h : n ≡ SHORT-KEYS = omega (arith, ltb-true n keyCount g, ltb-false n SHORT-KEYS f) in rw h)
     (λ g. rw (e, f, g))))
 
 -- a key's number in a segment
@@ -164,7 +164,7 @@ plain-numbered n =
     (λ e. rw e (omega arith))
     (λ e. by-test (ltb n SHORT-KEYS)
     (λ f. rw (e, f) (omega (arith, ltb-true n SHORT-KEYS f)))
-    (λ f. by-test (ltb n 12) (λ g. rw (e, f, g) (omega arith)) (λ g. rw (e, f, g) (omega arith))))
+    (λ f. by-test (ltb n keyCount) (λ g. rw (e, f, g) (omega arith)) (λ g. rw (e, f, g) (omega arith))))
 
 module _ (s : List ℕ) (from : ℕ) where
   -- the text behind a stop

@@ -14,7 +14,7 @@ use Rattle.chars.specs.Lists.{all, nonEmpty}
 use Rattle.chars.specs.Case.{agree, equalText}
 use Rattle.chars.specs.Parts.{before, run, split}
 use Rattle.chars.specs.Spaces.{isText}
-use Rattle.oraddr.specs.Bounds.{boundOf, isCountry, isSpace, isValue, levelCount, rule}
+use Rattle.oraddr.specs.Bounds.{OU, boundOf, isCountry, isSpace, isValue, levelCount, rule}
 use Rattle.oraddr.specs.Canonical.{isUnit}
 use Rattle.chars.proofs.Laws.Lists.{and-right, and-three, by-test, true-not-false}
 use Rattle.chars.proofs.Laws.Case.{equal-refl}
@@ -100,7 +100,7 @@ empty-rule k = by-test (eqb k 0) (λ e. rw e) (λ e. rw (e, empty-value k, and-f
 
 empty-level : (k : ℕ) → isLevel k [] ≡ false
 unfolding isLevel isUnit
-empty-level k = by-test (ltb k 4) (λ e. rw (e, empty-rule k)) (λ e. rw (e, empty-value 8))
+empty-level k = by-test (ltb k 4) (λ e. rw (e, empty-rule k)) (λ e. rw (e, empty-value OU))
 
 pub field-empty : (k : ℕ) (s : Token) → length s ≡ 0 → isField k s ≡ eqb k 2
 unfolding isField nonEmpty
@@ -116,7 +116,7 @@ pub field-own : (k : ℕ) (s : Token) → (length s ≡ 0 → ⊥) → k < 4 →
 unfolding isLevel
 field-own k s h l = field-some k s h ∙ rw (lt-ltb k 4 l)
 
-pub field-unit : (k : ℕ) (s : Token) → (length s ≡ 0 → ⊥) → 4 ≤ k → isField k s ≡ isValue 8 s
+pub field-unit : (k : ℕ) (s : Token) → (length s ≡ 0 → ⊥) → 4 ≤ k → isField k s ≡ isValue OU s
 unfolding isLevel isUnit
 field-unit k s h l = field-some k s h ∙ rw (le-ltb k 4 l)
 

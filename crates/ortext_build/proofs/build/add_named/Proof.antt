@@ -2,6 +2,7 @@
 -- Assumes nothing.
 use mathlib.Core.Path.{sym, ap, _∙_}
 use Rattle.oraddr.specs.Add.{told}
+use Rattle.ortext_segments.specs.Keys.{PN-KEY}
 use Rattle.ortext_build.specs.Adding.{addDds, addUnits, done, heldDds, heldUnits}
 use Rattle.ortext_build.proofs.Laws.Adding.{held-pn, held-pn-stop, held-stop, told-done, told-none, told-refused, told-some}
 use borrow.Author.Needs.{needs}
@@ -18,7 +19,7 @@ returns c =
     ap done (held-stop s m r (told (a .result)) (a .ensures) (told-refused (a .result) (c .enum-told .given .1)))
 
 add-pn-requires : tie.Need-add-pn-requires
-add-pn-requires c κs = (c .before .before .before .before .before .pre .once 10, told-done (c .before .before .before .add-singles .result) (c .before .enum-told2 .given .1))
+add-pn-requires c κs = (c .before .before .before .before .before .pre .once PN-KEY, told-done (c .before .before .before .add-singles .result) (c .before .enum-told2 .given .1))
 
 returns-2 : tie.Need-returns-2
 returns-2 c =

@@ -4,7 +4,7 @@ use mathlib.Core.Path.{_≡_, refl}
 use Prim.Native.Nat.{ℕ, suc, _≤_}
 use native.Mathlib.Omega.{arith}
 use Rattle.chars.specs.Lists.{bytes}
-use Rattle.ortext_segments.specs.Keys.{keys}
+use Rattle.ortext_segments.specs.Keys.{SHORT-KEYS, keys}
 use Rattle.ortext_segments.proofs.keys.key_name.Statement.{statement}
 use Rattle.ortext_segments.proofs.keys.key_name.Tie as tie
 
@@ -52,17 +52,21 @@ returns-11 : tie.Need-returns-11
 unfolding keys bytes
 returns-11 c = rw (c .before .before .match .keys11) (record { fits = omega arith; text = refl })
 
+returns-12 : tie.Need-returns-12
+unfolding keys bytes
+returns-12 c = rw (c .before .before .match .keys12) (record { fits = omega arith; text = refl })
+
 -- no other number is left
 above : (n k : ℕ) → n ≤ k → (k ≡ n → ⊥) → suc n ≤ k
 above n k h e = omega arith
 
-returns-12 : tie.Need-returns-12
+returns-13 : tie.Need-returns-13
 unfolding keys bytes
-returns-12 c =
+returns-13 c =
     let rest = c .before .before .match .rest in
     let k : ℕ = c .before .before .before .args .k in
-    let e : k ≡ 11 = omega (arith, c .before .before .before .pre, (above 10 k (above 9 k (above 8 k (above 7 k (above 6 k (above 5 k (above 4 k (above 3 k (above 2 k (above 1 k (above 0 k (omega arith) (rest .0 .0 .0 .0 .0 .0 .0 .0 .0 .0 .1)) (rest .0 .0 .0 .0 .0 .0 .0 .0 .0 .1)) (rest .0 .0 .0 .0 .0 .0 .0 .0 .1)) (rest .0 .0 .0 .0 .0 .0 .0 .1)) (rest .0 .0 .0 .0 .0 .0 .1)) (rest .0 .0 .0 .0 .0 .1)) (rest .0 .0 .0 .0 .1)) (rest .0 .0 .0 .1)) (rest .0 .0 .1)) (rest .0 .1)) (rest .1))) in
+    let e : k ≡ SHORT-KEYS = omega (arith, c .before .before .before .pre, (above 11 k (above 10 k (above 9 k (above 8 k (above 7 k (above 6 k (above 5 k (above 4 k (above 3 k (above 2 k (above 1 k (above 0 k (omega arith) (rest .0 .0 .0 .0 .0 .0 .0 .0 .0 .0 .0 .1)) (rest .0 .0 .0 .0 .0 .0 .0 .0 .0 .0 .1)) (rest .0 .0 .0 .0 .0 .0 .0 .0 .0 .1)) (rest .0 .0 .0 .0 .0 .0 .0 .0 .1)) (rest .0 .0 .0 .0 .0 .0 .0 .1)) (rest .0 .0 .0 .0 .0 .0 .1)) (rest .0 .0 .0 .0 .0 .1)) (rest .0 .0 .0 .0 .1)) (rest .0 .0 .0 .1)) (rest .0 .0 .1)) (rest .0 .1)) (rest .1))) in
     rw e (record { fits = omega arith; text = refl })
 
 pub key-name-spec : {M : Type 1} → statement M
-key-name-spec = tie.close (tie.spec returns returns-2 returns-3 returns-4 returns-5 returns-6 returns-7 returns-8 returns-9 returns-10 returns-11 returns-12)
+key-name-spec = tie.close (tie.spec returns returns-2 returns-3 returns-4 returns-5 returns-6 returns-7 returns-8 returns-9 returns-10 returns-11 returns-12 returns-13)

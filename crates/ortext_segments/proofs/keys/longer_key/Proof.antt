@@ -6,7 +6,7 @@ use native.Mathlib.Omega.{arith}
 use borrow.Author.Needs.{needs}
 use lib.ListN.{drop}
 use Rattle.chars.specs.Lists.{bytes}
-use Rattle.ortext_segments.specs.Keys.{keyNumber, keys}
+use Rattle.ortext_segments.specs.Keys.{SHORT-KEYS, keyNumber, keys}
 use Rattle.ortext_segments.proofs.Laws.KeyLengths.{long-from, long-short}
 use Rattle.ortext_segments.proofs.keys.longer_key.Statement.{statement}
 use Rattle.ortext_segments.proofs.keys.longer_key.Tie as tie
@@ -36,7 +36,7 @@ returns-3 c =
     let s = start .args .s .now in
     let from = long-from s (start .pre .0) (start .pre .1) in
     let behind : keyNumber (drop 1 keys) s ≡ suc (suc (keyNumber (drop 3 keys) s)) = rw (sym (c .before .before .before .before .before .before .before .same-text .ensures) ∙ c .before .before .before .before .before .before .if1 .left, sym (c .before .before .before .before .same-text2 .ensures) ∙ c .before .before .before .if2 .left) in
-    let last : keyNumber (drop 11 keys) s ≡ 0 = rw (sym (c .before .same-text3 .ensures) ∙ c .if3 .taken) in
+    let last : keyNumber (drop SHORT-KEYS keys) s ≡ 0 = rw (sym (c .before .same-text3 .ensures) ∙ c .if3 .taken) in
     omega (arith, from, behind, long-short s (start .pre .0) (start .pre .1), last)
 
 returns-4 : tie.Need-returns-4
@@ -46,7 +46,7 @@ returns-4 c =
     let s = start .args .s .now in
     let from = long-from s (start .pre .0) (start .pre .1) in
     let behind : keyNumber (drop 1 keys) s ≡ suc (suc (keyNumber (drop 3 keys) s)) = rw (sym (c .before .before .before .before .before .before .before .same-text .ensures) ∙ c .before .before .before .before .before .before .if1 .left, sym (c .before .before .before .before .same-text2 .ensures) ∙ c .before .before .before .if2 .left) in
-    let last : keyNumber (drop 11 keys) s ≡ 1 = rw (sym (c .before .same-text3 .ensures) ∙ c .if3 .left) in
+    let last : keyNumber (drop SHORT-KEYS keys) s ≡ 1 = rw (sym (c .before .same-text3 .ensures) ∙ c .if3 .left) in
     omega (arith, from, behind, long-short s (start .pre .0) (start .pre .1), last)
 
 pub longer-key-spec : {M : Type 1} → statement M

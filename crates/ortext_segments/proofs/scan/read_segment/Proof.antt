@@ -11,7 +11,7 @@ use lib.ListN.{length, drop, getD, take, length-drop}
 use Rattle.chars.proofs.Laws.Seq.{byte-inside}
 use Rattle.chars.specs.Lists.{all}
 use Rattle.chars.proofs.Laws.Lists.{all-each}
-use Rattle.ortext_segments.specs.Keys.{keyNumber, keys}
+use Rattle.ortext_segments.specs.Keys.{DD-KEY, keyNumber, keys}
 use Rattle.ortext_segments.specs.Scan.{Segmenting}
 use Rattle.ortext_segments.specs.Segments.{keyRun, mark}
 use Rattle.ortext_segments.proofs.Laws.Keys.{key-run-le}
@@ -97,7 +97,7 @@ returns-4 c =
     let key = take (at .key-end .result - a .from) (drop (a .from) (a .s .now)) in
     key-bad (a .s .now) (a .from) (at .key-end .result) (at .key-end .ensures) key (spelled at)
     (λ e. c .before .before .if2 .left (byte .byte-at .ensures ∙ e))
-    (rw (ne-eqb (keyNumber keys key) 9 (λ e. c .if4 .taken (numbered (byte .before) ∙ e)), and-false))
+    (rw (ne-eqb (keyNumber keys key) DD-KEY (λ e. c .if4 .taken (numbered (byte .before) ∙ e)), and-false))
     (byte .before .before .before .if1 .left)
 
 add-with-kind : tie.Need-add-with-kind

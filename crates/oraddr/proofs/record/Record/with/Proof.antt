@@ -1,4 +1,4 @@
--- `Record::with` meets its contract: every attribute has one of the first eight numbers.
+-- `Record::with` meets its contract: every attribute has one of the numbers of those that a record has once.
 -- Assumes nothing.
 use Rattle.oraddr.proofs.Laws.View.{place-low}
 use borrow.Author.Needs.{needs}

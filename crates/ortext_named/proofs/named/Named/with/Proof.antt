@@ -6,7 +6,9 @@ use Prim.Native.Nat.{min}
 use lib.Dec.{leb}
 use borrow.Author.Tests.{eq-eqb, le-ltb, lt-ltb, ne-eqb, not-false, not-true}
 use borrow.Author.Needs.{needs}
-use Rattle.oraddr.specs.Bounds.{ownLevels}
+use Rattle.oraddr.specs.Bounds.{most, ownLevels}
+use Rattle.ortext_segments.specs.Keys.{DD-KEY, OU-KEY}
+use Rattle.ortext_segments.specs.Segments.{unknown}
 use Rattle.ortext_named.specs.Named.{takeFound, withDd, withFound, withOnce, withUnit}
 use Rattle.ortext_named.proofs.named.Named.with.Statement.{statement}
 use Rattle.ortext_named.proofs.named.Named.with.Tie as tie
@@ -23,25 +25,25 @@ new c = let a = c .before .before .before .args in not-false (leb (min (a .n) ow
 
 returns-2 : tie.Need-returns-2
 unfolding takeFound withFound withUnit
-returns-2 c = rw (new (c .before .before), eq-eqb _ 8 (c .before .if2 .taken), le-ltb _ 4 (c .if3 .taken))
+returns-2 c = rw (new (c .before .before), eq-eqb _ OU-KEY (c .before .if2 .taken), le-ltb _ most (c .if3 .taken))
 
 returns-3 : tie.Need-returns-3
 unfolding takeFound withFound withUnit
-returns-3 c = rw (new (c .before .before), eq-eqb _ 8 (c .before .if2 .taken), lt-ltb _ 4 (c .if3 .left))
+returns-3 c = rw (new (c .before .before), eq-eqb _ OU-KEY (c .before .if2 .taken), lt-ltb _ most (c .if3 .left))
 
 returns-4 : tie.Need-returns-4
 unfolding takeFound withFound withDd
-returns-4 c = rw (new (c .before .before .before), ne-eqb _ 8 (c .before .before .if2 .left), eq-eqb _ 9 (c .before .if4 .taken), le-ltb _ 4 (c .if5 .taken))
+returns-4 c = rw (new (c .before .before .before), ne-eqb _ OU-KEY (c .before .before .if2 .left), eq-eqb _ DD-KEY (c .before .if4 .taken), le-ltb _ most (c .if5 .taken))
 
 returns-5 : tie.Need-returns-5
 unfolding takeFound withFound withDd
 returns-5 c =
     let at = c .before in
-    rw (new (at .before .before .before), ne-eqb _ 8 (at .before .before .if2 .left), eq-eqb _ 9 (at .before .if4 .taken), lt-ltb _ 4 (at .if5 .left))
+    rw (new (at .before .before .before), ne-eqb _ OU-KEY (at .before .before .if2 .left), eq-eqb _ DD-KEY (at .before .if4 .taken), lt-ltb _ most (at .if5 .left))
 
 returns-6 : tie.Need-returns-6
 unfolding takeFound withFound
-returns-6 c = rw (new (c .before .before .before), ne-eqb _ 8 (c .before .before .if2 .left), ne-eqb _ 9 (c .before .if4 .left), le-ltb _ 11 (c .if6 .taken))
+returns-6 c = rw (new (c .before .before .before), ne-eqb _ OU-KEY (c .before .before .if2 .left), ne-eqb _ DD-KEY (c .before .if4 .left), le-ltb _ unknown (c .if6 .taken))
 
 returns-7 : tie.Need-returns-7
 unfolding takeFound withFound withOnce
@@ -49,9 +51,9 @@ returns-7 c =
     let at = c .before .before .before in
     rw (
       new (at .before .before .before),
-      ne-eqb _ 8 (at .before .before .if2 .left),
-      ne-eqb _ 9 (at .before .if4 .left),
-      lt-ltb _ 11 (at .if6 .left),
+      ne-eqb _ OU-KEY (at .before .before .if2 .left),
+      ne-eqb _ DD-KEY (at .before .if4 .left),
+      lt-ltb _ unknown (at .if6 .left),
       sym (c .before .is-free .ensures) ∙ not-true (c .before .is-free .result) (c .if7 .taken),
     )
 
@@ -61,9 +63,9 @@ returns-8 c =
     let at = c .before .before .before in
     rw (
       new (at .before .before .before),
-      ne-eqb _ 8 (at .before .before .if2 .left),
-      ne-eqb _ 9 (at .before .if4 .left),
-      lt-ltb _ 11 (at .if6 .left),
+      ne-eqb _ OU-KEY (at .before .before .if2 .left),
+      ne-eqb _ DD-KEY (at .before .if4 .left),
+      lt-ltb _ unknown (at .if6 .left),
       sym (c .before .is-free .ensures) ∙ not-false (c .before .is-free .result) (c .if7 .left),
     )
 
