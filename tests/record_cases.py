@@ -13,8 +13,8 @@ from rules import ATOM, PRINTABLE, is_text, well_spaced
 LETTERS = b"ABCDEFGHIJKLMNOPQRSTUVWXYZabcdefghijklmnopqrstuvwxyz"
 DIGITS = b"0123456789"
 LABEL = LETTERS + DIGITS + b"-"
-SINGLE = "caposgiqn"
-KEY = {"c": "C", "a": "ADMD", "p": "PRMD", "o": "O", "u": "OU", "s": "S", "g": "G", "i": "I", "q": "GQ", "n": "CN"}
+SINGLE = "caponsgiq"
+KEY = {"c": "C", "a": "ADMD", "p": "PRMD", "o": "O", "n": "CN", "s": "S", "g": "G", "i": "I", "q": "GQ", "u": "OU"}
 ROOM = {"single": 64, "u": 32, "type": 8, "value": 128}
 # The bytes of a line, at most.
 TEXT = 512
@@ -199,7 +199,7 @@ SAMPLE = {
 
 
 def bounds(c):
-    for kind in "apousgiqn":
+    for kind in "aponsgiqu":
         most = rules.BOUND[KEY[kind]]
         for n in (0, 1, most - 1, most, most + 1):
             c.whole(*[a for a in BASE if a[0] != kind], (kind, b"x" * n))
@@ -259,7 +259,7 @@ def orders(c):
     for _ in range(300):
         additions = []
         for _ in range(rng.randrange(1, 14)):
-            kind = rng.choice("capouuuusgiqndddd")
+            kind = rng.choice("caponsgiquuuudddd")
             value = rng.choice([SAMPLE[kind][-1], b"x" * rng.randrange(0, 20), b"A b", b"A  b", b"Z" * 5, b"123", b"QR"])
             additions.append((kind, rng.choice([b"RFC-822", b"t", b"type-too-long"]), value) if kind == "d" else (kind, value))
         c.whole(*additions)

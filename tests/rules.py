@@ -10,7 +10,7 @@ BOUND = {"ADMD": 16, "PRMD": 16, "O": 64, "OU": 32, "S": 40, "G": 16, "I": 5, "G
 LEVELS = ["C", "ADMD", "PRMD", "O"]
 PERSONAL = ["S", "G", "I", "GQ"]
 # The attributes that a record has once, and the keys that may not be repeated.
-SINGLES = LEVELS + PERSONAL + ["CN"]
+SINGLES = LEVELS + ["CN"] + PERSONAL
 ONCE = SINGLES + ["PN"]
 LONGEST_ADDRESS = 2304
 
