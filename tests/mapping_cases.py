@@ -212,6 +212,13 @@ def record(one, units=(), dds=()):
 LEE = {"C": b"XY", "ADMD": b"PORTNET", "PRMD": b"TOW", "S": b"Lee"}
 
 
+def readable_address(n):
+    """An address of n bytes that is read: each character of its values stands behind a `$`, and as many as are needed behind a backslash."""
+    text, end = (b"/DD.t=" + b"$v" * 128) * 4 + b"/CN=" + b"$x" * 64 + b"/", b'"@tow.test'
+    escaped = n - len(text) - len(end) - 1
+    return b'"' + b"".join(b"\\%c" % b for b in text[:escaped]) + text[escaped:] + end
+
+
 def from_edges(cases):
     """Both sides of document 01's edges, the order of the refusals, and buffers that are too short, just long enough and longer."""
     for n in (63, 64):
@@ -220,7 +227,7 @@ def from_edges(cases):
         add_address(cases, PORTS, b"x" * n + b"@else.test")
     # 2 before 1, 1 before 3; what was too long before common names is so no more
     for n in (2048, 2049, LONGEST_ADDRESS - 1, LONGEST_ADDRESS, LONGEST_ADDRESS + 1):
-        for s in (b"x" * n, b"x" * (n - 10) + b"@else.test", b'"' + b"x" * (n - 11) + b'"@tow.test'):
+        for s in (b"x" * n, b"x" * (n - 10) + b"@else.test", b'"' + b"x" * (n - 11) + b'"@tow.test', readable_address(n)):
             add_address(cases, PORTS, s)
     for s in (b"a@@b", b""):
         add_address(cases, PORTS, s)
