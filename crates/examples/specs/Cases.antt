@@ -49,11 +49,11 @@ dd t v = record { kind = t; value = v }
 -- a record with C XY, ADMD one space, and the DD
 unfoldable pub withDd : Dd → Attributes
 unfolding bytes
-withDd d = record { single = bytes "XY" ∷ bytes " " ∷ [] ∷ [] ∷ [] ∷ [] ∷ [] ∷ [] ∷ []; units = []; dds = d ∷ [] }
+withDd d = record { single = bytes "XY" ∷ bytes " " ∷ [] ∷ [] ∷ [] ∷ [] ∷ [] ∷ [] ∷ [] ∷ []; units = []; dds = d ∷ [] }
 
 -- a name alone
 unfoldable pub withName : List ℕ → List ℕ → Attributes
-withName g s = record { single = [] ∷ [] ∷ [] ∷ [] ∷ s ∷ g ∷ [] ∷ [] ∷ []; units = []; dds = [] }
+withName g s = record { single = [] ∷ [] ∷ [] ∷ [] ∷ [] ∷ s ∷ g ∷ [] ∷ [] ∷ []; units = []; dds = [] }
 
 unfoldable pub admdOf : Reading → Option (List ℕ)
 unfolding singleOf view

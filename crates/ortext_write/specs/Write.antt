@@ -101,7 +101,7 @@ unfoldable pub onlyName : Attributes → Bool
 unfolding all nonEmpty singleOf
 onlyName a =
     all (λ s. not (nonEmpty s)) (take ownLevels (a .single))
-    && not (nonEmpty (a .units)) && not (nonEmpty (a .dds)) && not (nonEmpty (singleOf a CN))
+    && not (nonEmpty (a .units)) && not (nonEmpty (singleOf a CN)) && not (nonEmpty (a .dds))
 
 unfoldable pub writesShort : Attributes → Bool
 unfolding onlyName isShort nameIn singleOf

@@ -2,7 +2,7 @@
 -- carrier, and goes out as the very text; and so under a table text.
 -- Assumes nothing.
 use mathlib.Core.Path.{_≡_, refl, sym, ap, _∙_}
-use mathlib.Core.Bool.{true, _&&_, not}
+use mathlib.Core.Bool.{true, _&&_, _||_, not}
 use mathlib.Core.List.{List, [], _∷_, _++_}
 use mathlib.Core.Option.{some}
 use Prim.Native.Nat.{ℕ, zero, suc, _-_, _≤_}
@@ -18,7 +18,7 @@ use Rattle.chars.specs.Write.{front}
 use Rattle.chars.proofs.Laws.Case.{same-refl}
 use Rattle.chars.proofs.Laws.Lists.{and-both, and-left, and-right, and-three, by-test, or-right}
 use Rattle.oraddr.specs.Attributes.{Attributes, Dd, singleOf}
-use Rattle.oraddr.specs.Bounds.{DD-TYPE, S, isValue}
+use Rattle.oraddr.specs.Bounds.{CN, DD-TYPE, S, isValue}
 use Rattle.oraddr.specs.Canonical.{canonical, canonicalRecord, identified, isDd, namesWithSurname}
 use Rattle.oraddr.specs.View.{emptyRecord, view}
 use Rattle.oraddr.specs.declared.record.Record.{Record}
@@ -95,7 +95,7 @@ carrier-parts (a ∷ b ∷ ts) d l m h k =
       few-dds = omega arith;
       dds = and-both k refl;
       names = no-names (a ∷ b ∷ ts) d;
-      named = or-right (nonEmpty (singleOf (carrierShow (a ∷ b ∷ ts) d) S)) true refl;
+      named = or-right (nonEmpty (singleOf (carrierShow (a ∷ b ∷ ts) d) S) || nonEmpty (singleOf (carrierShow (a ∷ b ∷ ts) d) CN)) true refl;
     }
 
 -- the type of the DD

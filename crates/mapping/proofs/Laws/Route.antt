@@ -19,7 +19,7 @@ use Rattle.oraddr.specs.View.{view}
 use Rattle.oraddr.specs.declared.record.Record.{Record}
 use Rattle.oraddr.proofs.Laws.Canonical.{canonical-view}
 use Rattle.ortext_segments.specs.Keys.{keys}
-use Rattle.ortext_write.specs.Write.{localText, remaining}
+use Rattle.ortext_write.specs.Write.{localText, longestText, remaining}
 use Rattle.ortext_write.proofs.Laws.Write.{local-bound, text-class}
 use Rattle.mailaddr.specs.Shape.{addressText, quotedLocal}
 use Rattle.mailaddr.proofs.Laws.Shape.{length-quoted-quotable, quoted-atoms}
@@ -83,11 +83,11 @@ module _ (s rs : List ℕ) (t : load.Loaded.Loaded) (ls : List Token) where
 
 -- ---- how long its address is
 
-pub length-local : (r : Record) → canonicalRecord r ≡ true → (n : ℕ) → length (quotedLocal (localText keys (remaining n (view r)))) ≤ 1737
+pub length-local : (r : Record) → canonicalRecord r ≡ true → (n : ℕ) → length (quotedLocal (localText keys (remaining n (view r)))) ≤ longestText + 2
 unfolding isQuotable
 length-local r h n =
     let u : List ℕ = localText keys (remaining n (view r)) in
-    let l : length u ≤ 1735 = local-bound (view r) (canonical-view r h) n in
+    let l : length u ≤ longestText = local-bound (view r) (canonical-view r h) n in
     by-test (isAtoms u)
     (λ e. rw (quoted-atoms u e) (omega arith))
     (λ e. omega (arith, length-quoted-quotable u (text-class (view r) (canonical-view r h) n) e))

@@ -23,14 +23,14 @@ use Rattle.chars.proofs.Laws.Lists.{all-append, all-at, all-weaken, and-both, a
 use Rattle.chars.proofs.Laws.Parts.{split-at-sep}
 use Rattle.chars.proofs.Laws.Seq.{no-length, some-append, some-test}
 use Rattle.oraddr.specs.Attributes.{Attributes, Dd, levels, singleOf}
-use Rattle.oraddr.specs.Bounds.{ADMD, C, C-LETTERS, DD-TYPE, DD-VALUE, G, GQ, I, OU, S, boundOf, isCountry, isSpace, isValue, most, rule}
+use Rattle.oraddr.specs.Bounds.{ADMD, C, C-LETTERS, DD-TYPE, DD-VALUE, G, GQ, I, OU, S, boundOf, isCountry, isSpace, isValue, most, rule, singleCount}
 use Rattle.oraddr.specs.Canonical.{allKept, canonical, canonicalRecord, isDd, isUnit, kept}
 use Rattle.oraddr.specs.View.{view}
 use Rattle.oraddr.specs.declared.record.Record.{Record}
 use Rattle.oraddr.proofs.Laws.Canonical.{canonical-parts, canonical-view}
 use Rattle.oraddr.proofs.Laws.View.{value-length}
 use Rattle.ortext_read.specs.Apply.{Reading}
-use Rattle.ortext_segments.specs.Keys.{DD-KEY, OU-KEY, SHORT-KEYS, keys}
+use Rattle.ortext_segments.specs.Keys.{DD-KEY, OU-KEY, PN-KEY, SHORT-KEYS, keyCount, keys}
 use Rattle.ortext_name.specs.Name.{dotted, givenText, isShort, nameText}
 use Rattle.ortext_write.specs.Write.{ddSegment, hasShort, joined, keyValue, localText, longDd, nameIn, onlyName, order, plainSegment, quoted, recordText, remaining, segmentsAt, segmentsIn, segmentsText, writesShort}
 use Rattle.ortext_segments.proofs.Laws.Keys.{dot, key-clear}
@@ -184,7 +184,7 @@ unfolding keyValue
 sealed-key-value k v h g =
     sealed-byte 47 (k ++ 61 ∷ quoted v) refl (quiet-append k (61 ∷ quoted v) h (sealed-byte 61 (quoted v) refl (adjacent-quoted v ∙ g)))
 
-key-quiet : (k : ℕ) → k < 12 → adjacent (getD keys k []) ≡ false
+key-quiet : (k : ℕ) → k < keyCount → adjacent (getD keys k []) ≡ false
 unfolding keys bytes all adjacent first
 key-quiet k h = not-true (adjacent (getD keys k [])) (all-at (λ s. not (adjacent s)) keys k [] refl h)
 
@@ -208,7 +208,7 @@ dd-sealed d h =
     v))
 
 module _ (a : Attributes) (r : Ruled a) where
-  own-sealed : (k : ℕ) → k < 8 → Sealed (keyText a k)
+  own-sealed : (k : ℕ) → k < singleCount → Sealed (keyText a k)
   own-sealed k h =
       let v = singleOf a k in
       by-test (ltb 0 (length v))
@@ -223,20 +223,20 @@ module _ (a : Attributes) (r : Ruled a) where
   unfolding segmentsAt
   units-sealed = rw (joined-map keys (plainSegment OU-KEY)) (sealed-back unitText isUnit unit-sealed (a .units) [] (r .units) sealed-none)
 
-  at-sealed : (k : ℕ) → ltb k 10 ≡ true → Sealed (keyText a k)
+  at-sealed : (k : ℕ) → ltb k PN-KEY ≡ true → Sealed (keyText a k)
   at-sealed k h =
       by-test (eqb k DD-KEY)
       (λ e. rw (eqb-true k DD-KEY e) dds-sealed)
       (λ e. by-test (eqb k OU-KEY)
       (λ f. rw (eqb-true k OU-KEY f) units-sealed)
-      (λ f. own-sealed k (omega (arith, ltb-true k 10 h, eqb-false k DD-KEY e, eqb-false k OU-KEY f))))
+      (λ f. own-sealed k (omega (arith, ltb-true k PN-KEY h, eqb-false k DD-KEY e, eqb-false k OU-KEY f))))
 
   record-spaced : wellSpaced (recordText keys a) ≡ true
   unfolding recordText segmentsText last all
   record-spaced =
       let t : List ℕ = joined keys (segmentsIn a order) in
       sealed-spaced (t ++ (47 ∷ []))
-      (sealed-append t (47 ∷ []) (rw (joined-in keys a order) (sealed-flat (keyText a) (λ k. ltb k 10) at-sealed order refl)) (sealed-byte 47 [] refl (sealed-none .quiet)))
+      (sealed-append t (47 ∷ []) (rw (joined-in keys a order) (sealed-flat (keyText a) (λ k. ltb k PN-KEY) at-sealed order refl)) (sealed-byte 47 [] refl (sealed-none .quiet)))
       (rw (last-append t (47 ∷ []) (omega arith)))
 
 -- ---- the short form

@@ -16,7 +16,7 @@ use Rattle.chars.proofs.Laws.Lists.{and-both, and-left, and-right, and-three, b
 use Rattle.chars.proofs.Laws.Seq.{no-length}
 use Rattle.oraddr.specs.Add.{Outcome, addDd, addSingle, addUnit, outcome, setSingle}
 use Rattle.oraddr.specs.Attributes.{Attributes, Dd, singleOf}
-use Rattle.oraddr.specs.Bounds.{ADMD, C, OU, boundOf, most, rule}
+use Rattle.oraddr.specs.Bounds.{ADMD, C, CN, G, GQ, I, O, OU, PRMD, S, boundOf, most, rule, singleCount}
 use Rattle.oraddr.specs.Canonical.{canonicalRecord, isDd, isUnit}
 use Rattle.oraddr.specs.View.{ddInRange, ddsInRange, emptyRecord, inRange, singlesInRange, singlesView, unitsInRange, valueOf, valueView, view}
 use Rattle.oraddr.specs.declared.record.Record.{Record}
@@ -182,22 +182,32 @@ module _ (a : Attributes) (r : Record) (m : Made r) (h : addAll a r .number ≡ 
 
 -- ---- the attributes that a record has once, by their numbers
 
-eight : {A : Type 0} (s : List A) (d : A) → length s ≡ 8
-    → s ≡ getD s 0 d ∷ getD s 1 d ∷ getD s 2 d ∷ getD s 3 d ∷ getD s 4 d ∷ getD s 5 d ∷ getD s 6 d ∷ getD s 7 d ∷ []
-eight s d l =
-    let after : (k : ℕ) → k < 8 → drop k s ≡ getD s k d ∷ drop (suc k) s = λ k h. drop-cons s k d (omega arith) in
-    after 0 (omega arith)
-    ∙ rw (after 1 (omega arith), after 2 (omega arith), after 3 (omega arith), after 4 (omega arith), after 5 (omega arith), after 6 (omega arith), after 7 (omega arith), drop-of-length-le s {i = 8} (omega arith))
+singles-are : {A : Type 0} (s : List A) (d : A) → length s ≡ singleCount
+    → s ≡ getD s C d ∷ getD s ADMD d ∷ getD s PRMD d ∷ getD s O d ∷ getD s CN d ∷ getD s S d ∷ getD s G d ∷ getD s I d ∷ getD s GQ d ∷ []
+singles-are s d l =
+    let after : (k : ℕ) → k < singleCount → drop k s ≡ getD s k d ∷ drop (suc k) s = λ k h. drop-cons s k d (omega arith) in
+    after C (omega arith)
+    ∙ rw (
+      after ADMD (omega arith),
+      after PRMD (omega arith),
+      after O (omega arith),
+      after CN (omega arith),
+      after S (omega arith),
+      after G (omega arith),
+      after I (omega arith),
+      after GQ (omega arith),
+      drop-of-length-le s {i = singleCount} (omega arith),
+    )
 
-length-single : (r : Record) → Made r → length (view r .single) ≡ 8
+length-single : (r : Record) → Made r → length (view r .single) ≡ singleCount
 unfolding view singlesView
 length-single r m = length-map (r .singles .values) valueView ∙ m .shaped .values
 
-over-merged : (b : Attributes) (r : Record) → Made r → length (b .single) ≡ 8 → over b (view r) ≡ merged (view r) b
+over-merged : (b : Attributes) (r : Record) → Made r → length (b .single) ≡ singleCount → over b (view r) ≡ merged (view r) b
 unfolding over merged apply.merged singleOf
 over-merged b r m l =
     ap (λ (s : List (List ℕ)). record { single = s; units = view r .units ++ b .units; dds = view r .dds ++ b .dds })
-    (ap₂ apply.merged (eight (b .single) [] l) (eight (view r .single) [] (length-single r m)))
+    (ap₂ apply.merged (singles-are (b .single) [] l) (singles-are (view r .single) [] (length-single r m)))
 
 -- ---- completed
 
@@ -216,7 +226,7 @@ complete-shows r m =
     (λ e. rw e)
 
 -- what was added, and completed
-added-shows : (b : Attributes) (r q : Record) → Made r → length (b .single) ≡ 8 → finish (addAll b r) ≡ read q → view q ≡ completed (merged (view r) b)
+added-shows : (b : Attributes) (r q : Record) → Made r → length (b .single) ≡ singleCount → finish (addAll b r) ≡ read q → view q ≡ completed (merged (view r) b)
 unfolding finish
 added-shows b r q m l h =
     let o = addAll b r in
@@ -232,15 +242,15 @@ added-shows b r q m l h =
 
 -- the number of the attributes that a record has once, where there are any
 abbrev places : Option Attributes → ℕ
-places none = 8
+places none = singleCount
 places (some b) = length (b .single)
 
-with-places : (gs : List Segment) (o : Option Name) → places (withName gs o) ≡ 8
+with-places : (gs : List Segment) (o : Option Name) → places (withName gs o) ≡ singleCount
 unfolding withName
 with-places gs none = refl
 with-places gs (some m) = refl
 
-named-places : (gs : List Segment) → places (named gs) ≡ 8
+named-places : (gs : List Segment) → places (named gs) ≡ singleCount
 unfolding named
 named-places gs =
     by-test (hasUnknown gs || hasRepeated gs || pnMeets gs || hasEmpty gs) (λ e. rw e) (λ e. rw e (with-places gs (nameOf gs)))

@@ -180,10 +180,10 @@ dds-next f d i l o h = rw (add-one, drop-cons l i d)
 
 pub name-next : (r : Record) (n : Name) (o : Outcome) → o ≡ addSingles S (n .surname ∷ []) (start r) → addName r (some n) ≡ addSingles G (n .given ∷ n .initials ∷ []) o
 unfolding addName
-name-next r n o e = singles-cons 4 (n .surname) (n .given ∷ n .initials ∷ []) (start r) ∙ ap (addSingles G (n .given ∷ n .initials ∷ [])) (sym e)
+name-next r n o e = singles-cons S (n .surname) (n .given ∷ n .initials ∷ []) (start r) ∙ ap (addSingles G (n .given ∷ n .initials ∷ [])) (sym e)
 
 pub name-last : (r : Record) (n : Name) (o p : Outcome) → o ≡ addSingles S (n .surname ∷ []) (start r) → p ≡ addSingles G (n .given ∷ []) o → addName r (some n) ≡ addSingles I (n .initials ∷ []) p
-name-last r n o p e f = name-next r n o e ∙ singles-cons 5 (n .given) (n .initials ∷ []) o ∙ ap (addSingles I (n .initials ∷ [])) (sym f)
+name-last r n o p e f = name-next r n o e ∙ singles-cons G (n .given) (n .initials ∷ []) o ∙ ap (addSingles I (n .initials ∷ [])) (sym f)
 
 -- ---- a name too long for its pieces
 
@@ -205,13 +205,13 @@ name-some : (r : Record) (n : Name) → (length (n .given) ≤ boundOf G → len
 unfolding addName done allKept
 name-some r n f =
     by-test (eqb (addName r (some n) .number) 0)
-    (λ e. let k = singles-kept 4 (n .surname ∷ n .given ∷ n .initials ∷ []) (start r) (eqb-true _ 0 e) .1 in
-    let b = kept 5 (n .given) && (kept 6 (n .initials) && true) in
-    let s = and-left (kept 4 (n .surname)) b k in
-    let j = and-right (kept 4 (n .surname)) b k in
-    let g = and-left (kept 5 (n .given)) (kept 6 (n .initials) && true) j in
-    let i = and-left (kept 6 (n .initials)) true (and-right (kept 5 (n .given)) (kept 6 (n .initials) && true) j) in
-    absurd (f (kept-length 5 (n .given) (omega arith) g) (kept-length 6 (n .initials) (omega arith) i) (kept-length 4 (n .surname) (omega arith) s)))
+    (λ e. let k = singles-kept S (n .surname ∷ n .given ∷ n .initials ∷ []) (start r) (eqb-true _ 0 e) .1 in
+    let b = kept G (n .given) && (kept I (n .initials) && true) in
+    let s = and-left (kept S (n .surname)) b k in
+    let j = and-right (kept S (n .surname)) b k in
+    let g = and-left (kept G (n .given)) (kept I (n .initials) && true) j in
+    let i = and-left (kept I (n .initials)) true (and-right (kept G (n .given)) (kept I (n .initials) && true) j) in
+    absurd (f (kept-length G (n .given) (omega arith) g) (kept-length I (n .initials) (omega arith) i) (kept-length S (n .surname) (omega arith) s)))
     (λ e. rw e)
 
 pub name-long : (r : Record) (t : List ℕ) → boundOf DD-VALUE < length t → none ≡ done (addName r (readName t))

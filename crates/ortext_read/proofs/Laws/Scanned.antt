@@ -1,7 +1,7 @@
 -- What the places held come to once all is read: what the segments name, added to a record; and a text read as far as a place.
 -- Assumes nothing.
 use mathlib.Core.Path.{_≡_, refl, sym, ap, _∙_}
-use Prim.Native.Nat.{ℕ, _≤_, _<_}
+use Prim.Native.Nat.{ℕ, suc, _+_, _≤_, _<_}
 use native.Mathlib.Omega.{arith}
 use mathlib.Core.Bool.{Bool, true, false, not, _||_, cond}
 use mathlib.Core.List.{List, [], _∷_, _++_, append-nil, map, reverse}
@@ -9,10 +9,10 @@ use mathlib.Core.Option.{Option, none, some}
 use borrow.Author.Tests.{eqb-true, eqb-false, ne-eqb, not-false}
 use lib.Dec.{eqb, leb}
 use lib.ListN.{length, take, drop, getD, drop-of-length-le}
-use lib.Seq.{append-snoc}
+use lib.Seq.{append-snoc, drop-cons}
 use Rattle.chars.specs.Lists.{all, nonEmpty}
 use Rattle.chars.proofs.Laws.Lists.{and-both, by-test, or-left, or-right, true-not-false}
-use Rattle.oraddr.specs.Bounds.{ADMD, C, G, GQ, I, O, PRMD, S, singleCount}
+use Rattle.oraddr.specs.Bounds.{ADMD, C, CN, G, GQ, I, O, PRMD, S, singleCount}
 use Rattle.oraddr.specs.Add.{Outcome}
 use Rattle.oraddr.specs.declared.record.Record.{Record}
 use Rattle.ortext_segments.specs.Keys.{OU-KEY, PN-KEY, keys}
@@ -35,16 +35,23 @@ use Rattle.ortext_read.proofs.Laws.Held.{Once, Places, Fair, Held, held
 
 -- ---- the attributes that stand once
 
-take-eight : {A : Type 0} (l : List A) (d : A) → singleCount ≤ length l → take singleCount l ≡ getD l 0 d ∷ getD l 1 d ∷ getD l 2 d ∷ getD l 3 d ∷ getD l 4 d ∷ getD l 5 d ∷ getD l 6 d ∷ getD l 7 d ∷ []
-take-eight [] d h = absurd (omega arith)
-take-eight (a ∷ []) d h = absurd (omega arith)
-take-eight (a ∷ b ∷ []) d h = absurd (omega arith)
-take-eight (a ∷ b ∷ c ∷ []) d h = absurd (omega arith)
-take-eight (a ∷ b ∷ c ∷ e ∷ []) d h = absurd (omega arith)
-take-eight (a ∷ b ∷ c ∷ e ∷ f ∷ []) d h = absurd (omega arith)
-take-eight (a ∷ b ∷ c ∷ e ∷ f ∷ g ∷ []) d h = absurd (omega arith)
-take-eight (a ∷ b ∷ c ∷ e ∷ f ∷ g ∷ i ∷ []) d h = absurd (omega arith)
-take-eight (a ∷ b ∷ c ∷ e ∷ f ∷ g ∷ i ∷ j ∷ l) d h = refl
+take-next : {A : Type 0} (l : List A) (d : A) (k n : ℕ) → k + suc n ≤ length l → take (suc n) (drop k l) ≡ getD l k d ∷ take n (drop (suc k) l)
+take-next l d k n h = rw (drop-cons l k d (omega arith))
+
+take-singles : {A : Type 0} (l : List A) (d : A) → singleCount ≤ length l
+    → take singleCount l ≡ getD l C d ∷ getD l ADMD d ∷ getD l PRMD d ∷ getD l O d ∷ getD l CN d ∷ getD l S d ∷ getD l G d ∷ getD l I d ∷ getD l GQ d ∷ []
+take-singles l d h =
+    rw (
+      take-next l d 0 8 h,
+      take-next l d 1 7 h,
+      take-next l d 2 6 h,
+      take-next l d 3 5 h,
+      take-next l d 4 4 h,
+      take-next l d 5 3 h,
+      take-next l d 6 2 h,
+      take-next l d 7 1 h,
+      take-next l d 8 0 h,
+    )
 
 single-once : (k : ℕ) → k < singleCount → Once k
 single-once k h = record { low = omega arith; no-unit = λ e. omega arith; no-dd = λ e. omega arith }
@@ -98,7 +105,7 @@ pn-read : (s : List ℕ) (p : Span) (q : Record) (o : Option Name) → isAbsent 
 unfolding addPn
 pn-read s p q o e f = ap (λ b. cond b (start q) (addName q (readName (spanText s p)))) e ∙ ap (addName q) f
 
-name-is : (q : Record) (n : Name) → addName q (some n) ≡ addSingles 4 (n .surname ∷ n .given ∷ n .initials ∷ []) (start q)
+name-is : (q : Record) (n : Name) → addName q (some n) ≡ addSingles S (n .surname ∷ n .given ∷ n .initials ∷ []) (start q)
 unfolding addName
 name-is q n = refl
 
@@ -106,14 +113,15 @@ name-no : (q : Record) → addName q none .number ≡ 0 → ⊥
 unfolding addName
 name-no q e = omega arith
 
--- four values, and four that are absent or a name's
-singles-four : (a b c d : List ℕ) (o : Outcome) → addSingles 0 (a ∷ b ∷ c ∷ d ∷ [] ∷ [] ∷ [] ∷ [] ∷ []) o ≡ addSingles 0 (a ∷ b ∷ c ∷ d ∷ []) o
+-- the values before a name, and four that are absent or the name's
+singles-before : (a b c d e : List ℕ) (o : Outcome) → addSingles 0 (a ∷ b ∷ c ∷ d ∷ e ∷ [] ∷ [] ∷ [] ∷ [] ∷ []) o ≡ addSingles 0 (a ∷ b ∷ c ∷ d ∷ e ∷ []) o
 unfolding addSingles nonEmpty
-singles-four a b c d o = refl
+singles-before a b c d e o = refl
 
-singles-name : (a b c d x y z : List ℕ) (o : Outcome) → addSingles 4 (x ∷ y ∷ z ∷ []) (addSingles 0 (a ∷ b ∷ c ∷ d ∷ []) o) ≡ addSingles 0 (a ∷ b ∷ c ∷ d ∷ x ∷ y ∷ z ∷ [] ∷ []) o
+singles-name : (a b c d e x y z : List ℕ) (o : Outcome)
+    → addSingles S (x ∷ y ∷ z ∷ []) (addSingles 0 (a ∷ b ∷ c ∷ d ∷ e ∷ []) o) ≡ addSingles 0 (a ∷ b ∷ c ∷ d ∷ e ∷ x ∷ y ∷ z ∷ [] ∷ []) o
 unfolding addSingles nonEmpty
-singles-name a b c d x y z o = refl
+singles-name a b c d e x y z o = refl
 
 module _ (s : List ℕ) (m : Named) (h : AllSound s m) (gs : List Segment) (p : Places s m gs) where
   present : (k : ℕ) → Once k → nonEmpty (valuesAt k gs) ≡ not (isAbsent (placeAt m k))
@@ -146,7 +154,17 @@ module _ (s : List ℕ) (m : Named) (h : AllSound s m) (gs : List Segment) (p : 
   unfolding all
   once-each P f =
       let g : (k : ℕ) → k < singleCount → P k ≡ true = λ k l. f k (single-once k l) in
-      and-both (g 0 (omega arith)) (and-both (g 1 (omega arith)) (and-both (g 2 (omega arith)) (and-both (g 3 (omega arith)) (and-both (g 4 (omega arith)) (and-both (g 5 (omega arith)) (and-both (g 6 (omega arith)) (and-both (g 7 (omega arith)) refl)))))))
+      rw (
+        g C (omega arith),
+        g ADMD (omega arith),
+        g PRMD (omega arith),
+        g O (omega arith),
+        g CN (omega arith),
+        g S (omega arith),
+        g G (omega arith),
+        g I (omega arith),
+        g GQ (omega arith),
+      )
 
   no-repeated : hasRepeated gs ≡ false
   unfolding hasRepeated all
@@ -164,8 +182,8 @@ module _ (s : List ℕ) (m : Named) (h : AllSound s m) (gs : List Segment) (p : 
   abbrev at : ℕ → List ℕ
   at k = spanText s (placeAt m k)
 
-  eight : heldSingles s m ≡ at 0 ∷ at 1 ∷ at 2 ∷ at 3 ∷ at 4 ∷ at 5 ∷ at 6 ∷ at 7 ∷ []
-  eight = ap (map (spanText s)) (take-eight (m .once) noSpan (omega (arith, h .once-room)))
+  each-held : heldSingles s m ≡ at C ∷ at ADMD ∷ at PRMD ∷ at O ∷ at CN ∷ at S ∷ at G ∷ at I ∷ at GQ ∷ []
+  each-held = ap (map (spanText s)) (take-singles (m .once) noSpan (omega (arith, h .once-room)))
 
   single : (k : ℕ) → k < singleCount → valueAt k gs ≡ at k
   single k l = value k (single-once k l)
@@ -192,11 +210,11 @@ module _ (s : List ℕ) (m : Named) (h : AllSound s m) (gs : List Segment) (p : 
         let n : Name = record { given = valueAt G gs; initials = valueAt I gs; surname = valueAt S gs } in
         let o : nameOf gs ≡ some n = ap (λ b. cond b (readName (valueAt PN-KEY gs)) (some n)) (present PN-KEY pn-once ∙ ap not a) in
         let x : andThen singles (addPn s pn) ≡ addSingles 0 (attributes gs n .single) (start r) =
-        then-singles singles (addPn s pn) 0 [] (λ q. pn-none s pn q a) ∙ singles-nil 0 singles ∙ ap (λ l. addSingles 0 l (start r)) (eight ∙ same) in
+        then-singles singles (addPn s pn) 0 [] (λ q. pn-none s pn q a) ∙ singles-nil 0 singles ∙ ap (λ l. addSingles 0 l (start r)) (each-held ∙ same) in
         ap finish (parts r n (andThen singles (addPn s pn)) x) ∙ sym (ap (addNamed r) (named-is e ∙ ap (withName gs) o))
       where
-        same : at 0 ∷ at 1 ∷ at 2 ∷ at 3 ∷ at 4 ∷ at 5 ∷ at 6 ∷ at 7 ∷ [] ≡ valueAt C gs ∷ valueAt ADMD gs ∷ valueAt PRMD gs ∷ valueAt O gs ∷ valueAt S gs ∷ valueAt G gs ∷ valueAt I gs ∷ valueAt GQ gs ∷ []
-        same = rw (single 0 (omega arith), single 1 (omega arith), single 2 (omega arith), single 3 (omega arith), single 4 (omega arith), single 5 (omega arith), single 6 (omega arith), single 7 (omega arith))
+        same : at C ∷ at ADMD ∷ at PRMD ∷ at O ∷ at CN ∷ at S ∷ at G ∷ at I ∷ at GQ ∷ [] ≡ valueAt C gs ∷ valueAt ADMD gs ∷ valueAt PRMD gs ∷ valueAt O gs ∷ valueAt CN gs ∷ valueAt S gs ∷ valueAt G gs ∷ valueAt I gs ∷ valueAt GQ gs ∷ []
+        same = rw (single C (omega arith), single ADMD (omega arith), single PRMD (omega arith), single O (omega arith), single CN (omega arith), single S (omega arith), single G (omega arith), single I (omega arith), single GQ (omega arith))
 
     module _ (a : isAbsent pn ≡ false) where
       -- none of S, G, I and GQ is named
@@ -210,20 +228,20 @@ module _ (s : List ℕ) (m : Named) (h : AllSound s m) (gs : List Segment) (p : 
       absent : (k : ℕ) → not (isAbsent (placeAt m k)) ≡ false → at k ≡ []
       absent k f = span-none s (placeAt m k) (eqb-true (placeAt m k .len) 0 (not-false (isAbsent (placeAt m k)) f))
 
-      names-absent : (at 4 ≡ []) × (at 5 ≡ []) × (at 6 ≡ []) × (at 7 ≡ [])
+      names-absent : (at S ≡ []) × (at G ≡ []) × (at I ≡ []) × (at GQ ≡ [])
       names-absent =
           let x = not (isAbsent (placeAt m S)) in
           let y = not (isAbsent (placeAt m G)) in
           let z = not (isAbsent (placeAt m I)) in
           let f = or-left-none others (not (isAbsent (placeAt m GQ))) no-names in
           let g = or-left-none (x || y) z f in
-          (absent 4 (or-left-none x y g), absent 5 (or-right-none x y g), absent 6 (or-right-none (x || y) z f), absent 7 (or-right-none others (not (isAbsent (placeAt m GQ))) no-names))
+          (absent S (or-left-none x y g), absent G (or-right-none x y g), absent I (or-right-none (x || y) z f), absent GQ (or-right-none others (not (isAbsent (placeAt m GQ))) no-names))
 
-      four : singles ≡ addSingles 0 (at 0 ∷ at 1 ∷ at 2 ∷ at 3 ∷ []) (start r)
-      four =
-          ap (λ l. addSingles 0 l (start r)) (eight ∙ rest) ∙ singles-four (at 0) (at 1) (at 2) (at 3) (start r)
+      before-name : singles ≡ addSingles 0 (at C ∷ at ADMD ∷ at PRMD ∷ at O ∷ at CN ∷ []) (start r)
+      before-name =
+          ap (λ l. addSingles 0 l (start r)) (each-held ∙ rest) ∙ singles-before (at C) (at ADMD) (at PRMD) (at O) (at CN) (start r)
         where
-          rest : at 0 ∷ at 1 ∷ at 2 ∷ at 3 ∷ at 4 ∷ at 5 ∷ at 6 ∷ at 7 ∷ [] ≡ at 0 ∷ at 1 ∷ at 2 ∷ at 3 ∷ [] ∷ [] ∷ [] ∷ [] ∷ []
+          rest : at C ∷ at ADMD ∷ at PRMD ∷ at O ∷ at CN ∷ at S ∷ at G ∷ at I ∷ at GQ ∷ [] ≡ at C ∷ at ADMD ∷ at PRMD ∷ at O ∷ at CN ∷ [] ∷ [] ∷ [] ∷ [] ∷ []
           rest = rw (names-absent .0, names-absent .1, names-absent .2, names-absent .3)
 
       name-of : nameOf gs ≡ readName (at PN-KEY)
@@ -248,13 +266,13 @@ module _ (s : List ℕ) (m : Named) (h : AllSound s m) (gs : List Segment) (p : 
       some-pn n f =
           let l = n .surname ∷ n .given ∷ n .initials ∷ [] in
           let x : andThen singles (addPn s pn) ≡ addSingles 0 (attributes gs n .single) (start r) =
-          then-singles singles (addPn s pn) 4 l (λ q. pn-read s pn q (some n) a f ∙ name-is q n)
-          ∙ ap (addSingles 4 l) four ∙ singles-name (at 0) (at 1) (at 2) (at 3) (n .surname) (n .given) (n .initials) (start r)
+          then-singles singles (addPn s pn) S l (λ q. pn-read s pn q (some n) a f ∙ name-is q n)
+          ∙ ap (addSingles S l) before-name ∙ singles-name (at C) (at ADMD) (at PRMD) (at O) (at CN) (n .surname) (n .given) (n .initials) (start r)
           ∙ ap (λ l. addSingles 0 l (start r)) same in
           ap finish (parts r n (andThen singles (addPn s pn)) x) ∙ sym (ap (addNamed r) (named-is e ∙ ap (withName gs) (name-of ∙ f)))
         where
-          same : at 0 ∷ at 1 ∷ at 2 ∷ at 3 ∷ n .surname ∷ n .given ∷ n .initials ∷ [] ∷ [] ≡ attributes gs n .single
-          same = rw (single 0 (omega arith), single 1 (omega arith), single 2 (omega arith), single 3 (omega arith), single 7 (omega arith), names-absent .3)
+          same : at C ∷ at ADMD ∷ at PRMD ∷ at O ∷ at CN ∷ n .surname ∷ n .given ∷ n .initials ∷ [] ∷ [] ≡ attributes gs n .single
+          same = rw (single C (omega arith), single ADMD (omega arith), single PRMD (omega arith), single O (omega arith), single CN (omega arith), single GQ (omega arith), names-absent .3)
 
       with-pn : finish (addHeld s m r) ≡ addNamed r (named gs)
       with-pn = by-name (readName (at PN-KEY)) refl

@@ -1,7 +1,7 @@
 -- The values that segments have under a key, and what no further segment mends: a text that says so is refused whatever follows.
 -- Assumes nothing.
 use mathlib.Core.Path.{_≡_, refl, ap, _∙_}
-use Prim.Native.Nat.{ℕ, zero, suc, _<_}
+use Prim.Native.Nat.{ℕ, _<_, zero-le}
 use native.Mathlib.Omega.{arith}
 use mathlib.Core.Bool.{Bool, true, false, not, _||_, cond}
 use mathlib.Core.List.{List, [], _∷_, _++_, append-nil, reverse}
@@ -10,9 +10,10 @@ use borrow.Author.Tests.{eq-eqb, leb-true, ne-eqb}
 use lib.Dec.{eqb, leb}
 use lib.ListN.{length, length-reverse}
 use Rattle.chars.specs.Lists.{all, member, nonEmpty}
+use Rattle.chars.proofs.Laws.Class.{on-range, on-range-but}
 use Rattle.chars.proofs.Laws.Lists.{all-member, by-test, or-left, or-right, true-not-false}
 use Rattle.oraddr.specs.Attributes.{Attributes}
-use Rattle.oraddr.specs.Bounds.{ADMD, C, GQ, O, PRMD, most, singleCount}
+use Rattle.oraddr.specs.Bounds.{ADMD, C, CN, GQ, O, PRMD, most, singleCount}
 use Rattle.oraddr.specs.declared.record.Record.{Record}
 use Rattle.ortext_segments.specs.Keys.{DD-KEY, OU-KEY, PN-KEY}
 use Rattle.ortext_name.specs.Name.{Name}
@@ -68,30 +69,13 @@ named-none gs e = ap (λ b. cond b none (withName gs (nameOf gs))) e
 -- the keys that stand once
 key-member : (k : ℕ) → k < unknown → (k ≡ OU-KEY → ⊥) → (k ≡ DD-KEY → ⊥) → member k (PN-KEY ∷ singleKeys) ≡ true
 unfolding member
-key-member zero h a b = refl
-key-member (suc zero) h a b = refl
-key-member (suc (suc zero)) h a b = refl
-key-member (suc (suc (suc zero))) h a b = refl
-key-member (suc (suc (suc (suc zero)))) h a b = refl
-key-member (suc (suc (suc (suc (suc zero))))) h a b = refl
-key-member (suc (suc (suc (suc (suc (suc zero)))))) h a b = refl
-key-member (suc (suc (suc (suc (suc (suc (suc zero))))))) h a b = refl
-key-member (suc (suc (suc (suc (suc (suc (suc (suc zero)))))))) h a b = absurd (a refl)
-key-member (suc (suc (suc (suc (suc (suc (suc (suc (suc zero))))))))) h a b = absurd (b refl)
-key-member (suc (suc (suc (suc (suc (suc (suc (suc (suc (suc zero)))))))))) h a b = refl
-key-member (suc (suc (suc (suc (suc (suc (suc (suc (suc (suc (suc k))))))))))) h a b = absurd (omega arith)
+key-member k h a b =
+    on-range-but (λ k. eqb k OU-KEY || eqb k DD-KEY) (λ k. member k (PN-KEY ∷ singleKeys)) (λ _. true) 0 unknown tt k zero-le (omega arith)
+    (rw (ne-eqb k OU-KEY a, ne-eqb k DD-KEY b))
 
 single-member : (k : ℕ) → k < singleCount → member k singleKeys ≡ true
 unfolding member
-single-member zero h = refl
-single-member (suc zero) h = refl
-single-member (suc (suc zero)) h = refl
-single-member (suc (suc (suc zero))) h = refl
-single-member (suc (suc (suc (suc zero)))) h = refl
-single-member (suc (suc (suc (suc (suc zero))))) h = refl
-single-member (suc (suc (suc (suc (suc (suc zero)))))) h = refl
-single-member (suc (suc (suc (suc (suc (suc (suc zero))))))) h = refl
-single-member (suc (suc (suc (suc (suc (suc (suc (suc k)))))))) h = absurd (omega arith)
+single-member k h = on-range (λ k. member k singleKeys) (λ _. true) 0 singleCount tt k zero-le (omega arith)
 
 pub unknown-none : (gs : List Segment) → nonEmpty (valuesAt unknown gs) ≡ true → named gs ≡ none
 unfolding hasUnknown
@@ -120,7 +104,7 @@ abbrev pub attributes : List Segment → Name → Attributes
 attributes gs n =
     record {
       single =
-          valueAt C gs ∷ valueAt ADMD gs ∷ valueAt PRMD gs ∷ valueAt O gs
+          valueAt C gs ∷ valueAt ADMD gs ∷ valueAt PRMD gs ∷ valueAt O gs ∷ valueAt CN gs
           ∷ n .surname ∷ n .given ∷ n .initials ∷ valueAt GQ gs ∷ [];
       units = reverse (valuesAt OU-KEY gs);
       dds = ddsOf gs;

@@ -1,7 +1,7 @@
 -- What is written of a record reads back: over the levels that a domain settled, case aside, the local part gives the same record.
 -- Assumes nothing.
 use mathlib.Core.Path.{_≡_, refl, sym, ap, ap₂, subst, _∙_}
-use mathlib.Core.Bool.{Bool, true, not, cond, and-false}
+use mathlib.Core.Bool.{Bool, true, not, cond, and-false, _&&_}
 use mathlib.Core.List.{List, [], _∷_, _++_, map}
 use mathlib.Core.Option.{Option, some}
 use Prim.Native.Nat.{ℕ, zero, suc, _+_, _-_, _≤_, _<_, min}
@@ -16,7 +16,7 @@ use Rattle.chars.specs.Lists.{all, nonEmpty}
 use Rattle.chars.specs.Case.{agree, sameText}
 use Rattle.chars.proofs.Laws.Lists.{all-drop, and-both, and-left, and-right, and-three, by-test, true-not-false}
 use Rattle.chars.proofs.Laws.Case.{agree-append, agree-length, agree-refl, equal-refl, same-refl}
-use Rattle.oraddr.specs.Bounds.{ADMD, GQ, most, ownLevels, singleCount}
+use Rattle.oraddr.specs.Bounds.{ADMD, CN, G, GQ, I, S, most, ownLevels, singleCount}
 use Rattle.oraddr.specs.Attributes.{Attributes, Dd, levels, singleOf}
 use Rattle.oraddr.specs.Canonical.{allKept, canonical, isUnit, kept}
 use Rattle.oraddr.specs.Same.{sameAttributes, sameDd}
@@ -100,7 +100,7 @@ pub record Settled (n : ℕ) (st : List (List ℕ)) (a : Attributes) (r : Record
   pub few : n ≤ 8
   pub reach : n - ownLevels ≤ length (a .units)
   pub same : agree sameText st (take n (levels a)) ≡ true
-  pub shows : view r ≡ record { single = take ownLevels st ++ replicate (8 - length (take ownLevels st)) []; units = drop ownLevels st; dds = [] }
+  pub shows : view r ≡ record { single = take ownLevels st ++ replicate (singleCount - length (take ownLevels st)) []; units = drop ownLevels st; dds = [] }
 
 -- where no level is settled, as at the gateway
 pub settled-none : (a : Attributes) → Settled 0 [] a emptyRecord
@@ -148,7 +148,7 @@ module _ {n : ℕ} {st : List (List ℕ)} {a : Attributes} {r : Record} (q : Set
   front-length : length (take ownLevels st) ≡ min n ownLevels
   front-length = omega (arith, length-take ownLevels st, q .count)
 
-  rest-length : length (drop (min n ownLevels) (a .single)) ≡ 8 - length (take ownLevels st)
+  rest-length : length (drop (min n ownLevels) (a .single)) ≡ singleCount - length (take ownLevels st)
   rest-length = omega (arith, front-length, length-drop (min n ownLevels) (a .single))
 
   backed-same : sameAttributes (backed n st a) a ≡ true
@@ -180,7 +180,7 @@ module _ {n : ℕ} {st : List (List ℕ)} {a : Attributes} {r : Record} (q : Set
       rw (q .shows)
       (record {
         singles = left-kept (min n ownLevels) 0 (a .single) (c .singles);
-        free = λ k e. left-free p x (8 - length p) k (ap (λ i. nonEmpty (getD (replicate i [] ++ x) k [])) front-length ∙ e);
+        free = λ k e. left-free p x (singleCount - length p) k (ap (λ i. nonEmpty (getD (replicate i [] ++ x) k [])) front-length ∙ e);
         units = all-drop isUnit (n - ownLevels) (a .units) (c .units);
         few-units = omega (arith, length-drop ownLevels st, length-drop (n - ownLevels) (a .units), c .few-units, q .count, q .reach);
         dds = c .dds;
@@ -256,9 +256,16 @@ unfolding isShort
 short-no-gq m gq h =
     absent-is gq (by-test (nonEmpty gq) (λ e. true-not-false true refl (sym (rw (e, and-false) at h))) (λ e. e))
 
-last-four : (s : List (List ℕ)) → length s ≡ 8 → drop ownLevels s ≡ getD s 4 [] ∷ getD s 5 [] ∷ getD s 6 [] ∷ getD s 7 [] ∷ []
-last-four s l =
-    rw (drop-cons s 4 [] (omega arith), drop-cons s 5 [] (omega arith), drop-cons s 6 [] (omega arith), drop-cons s 7 [] (omega arith), drop-of-length-le s {i = 8} (omega arith))
+behind-levels : (s : List (List ℕ)) → length s ≡ singleCount → drop ownLevels s ≡ getD s CN [] ∷ getD s S [] ∷ getD s G [] ∷ getD s I [] ∷ getD s GQ [] ∷ []
+behind-levels s l =
+    rw (
+      drop-cons s CN [] (omega arith),
+      drop-cons s S [] (omega arith),
+      drop-cons s G [] (omega arith),
+      drop-cons s I [] (omega arith),
+      drop-cons s GQ [] (omega arith),
+      drop-of-length-le s {i = singleCount} (omega arith),
+    )
 
 -- where only a name is left and it is short, the name says all
 only-name : (b : Attributes) → length (b .single) ≡ singleCount → writesShort b ≡ true → nameAlone (nameIn b) ≡ b
@@ -267,15 +274,21 @@ only-name b l h =
     let s = b .single in
     let m = nameIn b in
     let first = all (λ v. not (nonEmpty v)) (take ownLevels s) in
-    let p = and-three first (not (nonEmpty (b .units))) (not (nonEmpty (b .dds))) (and-left (onlyName b) (isShort m (getD s 7 [])) h) in
-    let gq = short-no-gq m (getD s 7 []) (and-right (onlyName b) (isShort m (getD s 7 [])) h) in
-    let four : take ownLevels s ≡ replicate 4 [] = all-absent (take ownLevels s) (p .0) ∙ ap (λ k. replicate k []) (length-take-le 4 s (omega arith)) in
+    let units = not (nonEmpty (b .units)) in
+    let common = not (nonEmpty (getD s CN [])) in
+    let dds = not (nonEmpty (b .dds)) in
+    let only = and-left (onlyName b) (isShort m (getD s GQ [])) h in
+    let p = and-three first units common (and-left (first && units && common) dds only) in
+    let gq = short-no-gq m (getD s GQ []) (and-right (onlyName b) (isShort m (getD s GQ [])) h) in
+    let cn = absent-is (getD s CN []) (not-true (nonEmpty (getD s CN [])) (p .2)) in
+    let four : take ownLevels s ≡ replicate ownLevels [] = all-absent (take ownLevels s) (p .0) ∙ ap (λ k. replicate k []) (length-take-le ownLevels s (omega arith)) in
     let singles : nameAlone m .single ≡ s =
-    ap (λ (v : List ℕ). [] ∷ [] ∷ [] ∷ [] ∷ m .surname ∷ m .given ∷ m .initials ∷ v ∷ []) (sym gq)
-    ∙ ap₂ (λ x y. x ++ y) (sym four) (sym (last-four s l))
+    ap₂ (λ (u v : List ℕ). [] ∷ [] ∷ [] ∷ [] ∷ u ∷ m .surname ∷ m .given ∷ m .initials ∷ v ∷ []) (sym cn) (sym gq)
+    ∙ ap₂ (λ x y. x ++ y) (sym four) (sym (behind-levels s l))
     ∙ take-append-drop ownLevels s in
     ap₂ (λ x y. record { single = x; units = y; dds = [] }) singles (sym (absent-is (b .units) (not-true (nonEmpty (b .units)) (p .1))))
-    ∙ ap (λ (z : List Dd). record { single = s; units = b .units; dds = z }) (sym (absent-is (b .dds) (not-true (nonEmpty (b .dds)) (p .2))))
+    ∙ ap (λ (z : List Dd). record { single = s; units = b .units; dds = z })
+    (sym (absent-is (b .dds) (not-true (nonEmpty (b .dds)) (and-right (first && units && common) dds only))))
 
 -- ---- the theorem
 

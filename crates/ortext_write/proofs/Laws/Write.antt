@@ -21,14 +21,14 @@ use Rattle.chars.proofs.Laws.Class.{digit-printable, letter-printable}
 use Rattle.chars.proofs.Laws.Case.{equal-path}
 use Rattle.chars.proofs.Laws.Seq.{no-length, some-length}
 use Rattle.oraddr.specs.Attributes.{Attributes, Dd, singleOf}
-use Rattle.oraddr.specs.Bounds.{ADMD, C, C-LETTERS, DD-TYPE, DD-VALUE, G, GQ, I, O, OU, PRMD, S, boundOf, isCountry, isSpace, isValue, ownLevels, rule, singleCount}
+use Rattle.oraddr.specs.Bounds.{ADMD, C, C-LETTERS, CN, DD-TYPE, DD-VALUE, G, GQ, I, O, OU, PRMD, S, boundOf, isCountry, isSpace, isValue, most, ownLevels, rule, singleCount}
 use Rattle.oraddr.specs.Canonical.{allKept, canonical, isDd, isUnit, kept}
 use Rattle.oraddr.proofs.Laws.Canonical.{canonical-parts}
 use Rattle.oraddr.proofs.Laws.View.{value-length}
-use Rattle.ortext_segments.specs.Keys.{Keys, DD-KEY, OU-KEY, SHORT-KEYS, keyNumber, keys}
+use Rattle.ortext_segments.specs.Keys.{Keys, DD-KEY, OU-KEY, PN-KEY, SHORT-KEYS, keyCount, keyNumber, keys}
 use Rattle.ortext_name.specs.Name.{isShort, nameText}
 use Rattle.ortext_segments.specs.Segments.{Segment}
-use Rattle.ortext_write.specs.Write.{ddSegment, hasShort, joined, keyValue, localText, longDd, longestText, nameIn, onlyName, order, plainSegment, quoted, recordText, remaining, segmentText, segmentsAt, segmentsIn, segmentsText, shortKey, writesShort}
+use Rattle.ortext_write.specs.Write.{ddMost, ddSegment, hasShort, joined, keyValue, localText, longDd, longestText, nameIn, onlyName, order, plainSegment, quoted, quotedMost, recordText, remaining, segmentText, segmentsAt, segmentsIn, segmentsText, shortKey, unitMost, writesShort}
 use Rattle.ortext_write.proofs.Laws.Left.{flat}
 use Rattle.ortext_name.proofs.Laws.Name.{length-name, name-all}
 
@@ -217,9 +217,14 @@ module _ (a : Attributes) where
   unfolding onlyName
   only-units h = rw (some-length (a .units) h, and-false (all (λ s. not (nonEmpty s)) (take ownLevels (a .single))))
 
-  pub only-rest : all (λ s. not (nonEmpty s)) (take ownLevels (a .single)) ≡ true → length (a .units) ≤ 0 → eqb (length (a .dds)) 0 ≡ onlyName a
+  pub only-common : 0 < length (singleOf a CN) → onlyName a ≡ false
+  unfolding onlyName
+  only-common h = rw (some-length (singleOf a CN) h, and-false (all (λ s. not (nonEmpty s)) (take ownLevels (a .single)) && not (nonEmpty (a .units))))
+
+  pub only-rest : all (λ s. not (nonEmpty s)) (take ownLevels (a .single)) ≡ true → length (a .units) ≤ 0 → length (singleOf a CN) ≤ 0
+      → eqb (length (a .dds)) 0 ≡ onlyName a
   unfolding onlyName nonEmpty
-  only-rest h k = rw (h, no-length (a .units) k) (none-test (a .dds))
+  only-rest h k j = rw (h, no-length (a .units) k, no-length (singleOf a CN) j) (none-test (a .dds))
     where
       none-test : {A : Type 0} (s : List A) → eqb (length s) 0 ≡ not (nonEmpty s)
       none-test [] = refl
@@ -377,12 +382,12 @@ flat-most f p m g (x ∷ l) h =
     rw (length-append, suc-mul)
     (omega (arith, g x (and-left (p x) (all p l) h), flat-most f p m g l (and-right (p x) (all p l) h)))
 
-unit-most : (v : List ℕ) → isUnit v ≡ true → length (unitText v) ≤ 68
+unit-most : (v : List ℕ) → isUnit v ≡ true → length (unitText v) ≤ unitMost
 unfolding isUnit keys bytes
 unit-most v h =
     omega (arith, ap length (plain-text OU-KEY v (λ q. omega arith)), length-key-value (getD keys OU-KEY []) v, quoted-length v, value-length OU v h)
 
-dd-most : (d : Dd) → isDd d ≡ true → length (ddText d) ≤ 277
+dd-most : (d : Dd) → isDd d ≡ true → length (ddText d) ≤ ddMost
 unfolding isDd keys bytes
 dd-most d h =
     let t = value-length DD-TYPE (d .kind) (and-left (isValue DD-TYPE (d .kind)) (isValue DD-VALUE (d .value)) h) in
@@ -398,26 +403,26 @@ all-reverse p (x ∷ l) h =
     rw (reverse-cons, all-append p (reverse l) (x ∷ []), all-reverse p l (and-right (p x) (all p l) h), and-left (p x) (all p l) h)
 
 module _ (a : Attributes) (r : Ruled a) where
-  own-most : (k m : ℕ) → k < singleCount → leb (length (getD keys k []) + 2 * boundOf k + 2) m ≡ true → length (keyText a k) ≤ m
+  own-most : (k m : ℕ) → k < singleCount → leb (length (getD keys k []) + 2) m ≡ true → length (keyText a k) ≤ m + quotedMost k
   own-most k m h e =
-      omega (arith, leb-true (length (getD keys k []) + 2 * boundOf k + 2) m e, single-most a k (2 * boundOf k) h (omega (arith, quoted-length (singleOf a k), kept-within k (singleOf a k) (r .singles k))))
+      omega (arith, leb-true (length (getD keys k []) + 2) m e, single-most a k (quotedMost k) h (omega (arith, quoted-length (singleOf a k), kept-within k (singleOf a k) (r .singles k))))
 
-  country-most : length (keyText a C) ≤ 6
+  country-most : length (keyText a C) ≤ 3 + boundOf C
   unfolding keys bytes
   country-most = single-most a C 3 (lit< tt) (rw (country-quoted (singleOf a C) (r .singles C)) (kept-within C (singleOf a C) (r .singles C)))
 
-  units-most : length (keyText a OU-KEY) ≤ 272
+  units-most : length (keyText a OU-KEY) ≤ most * unitMost
   units-most =
-      omega (arith, ap length (units-text a), flat-most unitText isUnit 68 unit-most (reverse (a .units)) (all-reverse isUnit (a .units) (r .units)), length-reverse (a .units), r .few-units)
+      omega (arith, ap length (units-text a), flat-most unitText isUnit unitMost unit-most (reverse (a .units)) (all-reverse isUnit (a .units) (r .units)), length-reverse (a .units), r .few-units)
 
-  dds-most : length (keyText a DD-KEY) ≤ 1108
-  dds-most = omega (arith, ap length (dds-text a), flat-most ddText isDd 277 dd-most (a .dds) (r .dds), r .few-dds)
+  dds-most : length (keyText a DD-KEY) ≤ most * ddMost
+  dds-most = omega (arith, ap length (dds-text a), flat-most ddText isDd ddMost dd-most (a .dds) (r .dds), r .few-dds)
 
   record-most : length (recordText keys a) ≤ longestText
   unfolding keys bytes
   record-most =
       let t = simp length-append at (ap length (joined-in keys a order)) in
-      omega (arith, length-text a, t, dds-most, own-most G 35 (lit< tt) refl, own-most I 13 (lit< tt) refl, own-most S 83 (lit< tt) refl, own-most GQ 10 (lit< tt) refl, units-most, own-most O 131 (lit< tt) refl, own-most PRMD 38 (lit< tt) refl, own-most ADMD 38 (lit< tt) refl, country-most)
+      omega (arith, length-text a, t, dds-most, own-most CN 4 (lit< tt) refl, own-most G 3 (lit< tt) refl, own-most I 3 (lit< tt) refl, own-most S 3 (lit< tt) refl, own-most GQ 4 (lit< tt) refl, units-most, own-most O 3 (lit< tt) refl, own-most PRMD 6 (lit< tt) refl, own-most ADMD 6 (lit< tt) refl, country-most)
 
   local-most : length (localText keys a) ≤ longestText
   unfolding nameIn
@@ -470,7 +475,7 @@ quoted-class (x ∷ s) h =
     let r = quoted-class s (and-right (isPrintable x) (all isPrintable s) h) in
     by-test (eqb x 47 || eqb x 61) (λ e. rw (e, or-true, p, r)) (λ e. rw (e, p, r))
 
-key-class : (k : ℕ) → k < 12 → all isTextChar (getD keys k []) ≡ true
+key-class : (k : ℕ) → k < keyCount → all isTextChar (getD keys k []) ≡ true
 unfolding keys bytes all isPrintable isLetter isDigit between member
 key-class k h = all-at (all isTextChar) keys k [] refl h
 
@@ -513,21 +518,21 @@ module _ (a : Attributes) (r : Ruled a) where
       (λ e. rw (single-some a k h (ltb-true 0 (length v) e)) (key-value-class (getD keys k []) v (key-class k (omega arith)) (kept-printable k v (r .singles k))))
       (λ e. rw (single-none keys a k h (no-length v (ltb-false 0 (length v) e))))
 
-  at-class : (k : ℕ) → ltb k 10 ≡ true → all isTextChar (keyText a k) ≡ true
+  at-class : (k : ℕ) → ltb k PN-KEY ≡ true → all isTextChar (keyText a k) ≡ true
   at-class k h =
       by-test (eqb k DD-KEY)
       (λ e. rw (eqb-true k DD-KEY e, dds-text a) (flat-class ddText isDd isTextChar dd-class (a .dds) (r .dds)))
       (λ e. by-test (eqb k OU-KEY)
       (λ f. rw (eqb-true k OU-KEY f, units-text a) (flat-class unitText isUnit isTextChar unit-class (reverse (a .units)) (all-reverse isUnit (a .units) (r .units))))
-      (λ f. own-class k (below k (ltb-true k 10 h) (eqb-false k DD-KEY e) (eqb-false k OU-KEY f))))
+      (λ f. own-class k (below k (ltb-true k PN-KEY h) (eqb-false k DD-KEY e) (eqb-false k OU-KEY f))))
     where
-      below : (k : ℕ) → k < 10 → (k ≡ 9 → ⊥) → (k ≡ 8 → ⊥) → k < singleCount
+      below : (k : ℕ) → k < PN-KEY → (k ≡ DD-KEY → ⊥) → (k ≡ OU-KEY → ⊥) → k < singleCount
       below k h e f = omega arith
 
   record-class : all isTextChar (recordText keys a) ≡ true
   unfolding recordText segmentsText all isPrintable isLetter isDigit between member bytes
   record-class =
-      rw (all-append isTextChar (joined keys (segmentsIn a order)) (47 ∷ []), joined-in keys a order, flat-class (keyText a) (λ k. ltb k 10) isTextChar at-class order refl)
+      rw (all-append isTextChar (joined keys (segmentsIn a order)) (47 ∷ []), joined-in keys a order, flat-class (keyText a) (λ k. ltb k PN-KEY) isTextChar at-class order refl)
 
   name-class : all isTextChar (nameText (nameIn a)) ≡ true
   unfolding nameIn isPrintable isLetter isDigit between member bytes

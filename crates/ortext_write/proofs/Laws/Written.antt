@@ -20,7 +20,7 @@ use Rattle.chars.specs.Spaces.{isText, wellSpaced}
 use Rattle.chars.proofs.Laws.Case.{equal-path}
 use Rattle.chars.proofs.Laws.Class.{digit-printable, letter-printable}
 use Rattle.chars.proofs.Laws.Lists.{all-append, all-at, all-drop, all-map, all-weaken, first-at, and-both, and-left, and-right, and-three, by-test, or-cases, true-not-false}
-use Rattle.oraddr.specs.Bounds.{ADMD, C, C-LETTERS, DD-TYPE, DD-VALUE, G, GQ, I, O, OU, PRMD, S, boundOf, isCountry, isSpace, isValue, ownLevels, rule, singleCount}
+use Rattle.oraddr.specs.Bounds.{ADMD, C, C-LETTERS, CN, DD-TYPE, DD-VALUE, G, GQ, I, O, OU, PRMD, S, boundOf, isCountry, isSpace, isValue, ownLevels, rule, singleCount}
 use Rattle.ortext_segments.specs.Keys.{Keys, DD-KEY, OU-KEY, PN-KEY, SHORT-KEYS, isKey, keyNumber, keys}
 use Rattle.ortext_segments.specs.Segments.{Segment, unknown, ahead, keyRun, plainKey, plainText, readRest, readSegments, segmentOf, symbols}
 use Rattle.oraddr.specs.Attributes.{Attributes, Dd, singleOf}
@@ -97,7 +97,7 @@ record Left (ks : Keys) (g : Segment) : Type 0 where
   makes : (w : List ℕ) → plainText w ≡ g .value → segmentOf ks marked w ≡ some (spelled ks g)
 
 module _ (ks : Keys) (good : goodKeys ks ≡ true) where
-  table-length : 11 ≤ length ks
+  table-length : SHORT-KEYS ≤ length ks
   unfolding goodKeys
   table-length = leb-true SHORT-KEYS (length ks) (and-left (leb SHORT-KEYS (length ks)) (goodFrom ks 0 ks) good)
 
@@ -148,7 +148,7 @@ module _ (ks : Keys) (good : goodKeys ks ≡ true) where
   plain-left : (g : Segment) → ltb (g .key) DD-KEY ≡ true → nonEmpty (g .kind) ≡ false → Left ks g
   unfolding segmentText spelled plainKey
   plain-left g h e =
-      let l : g .key < 9 = ltb-true (g .key) DD-KEY h in
+      let l : g .key < DD-KEY = ltb-true (g .key) DD-KEY h in
       let n : eqb (g .key) DD-KEY ≡ false = ne-eqb (g .key) DD-KEY (λ r. omega arith) in
       key-left g (g .key) (omega (arith, table-length)) (rw n)
       (rw (n, lt-ltb (g .key) SHORT-KEYS (omega arith)) (ap (λ (t : List ℕ). record { key = g .key; kind = t; value = g .value }) (sym (absent-is (g .kind) e))))
@@ -159,17 +159,17 @@ module _ (ks : Keys) (good : goodKeys ks ≡ true) where
   short-left g h e =
       let n = keyNumber (drop SHORT-KEYS ks) (g .kind) in
       let l : n < length (drop SHORT-KEYS ks) = ltb-true n (length (drop SHORT-KEYS ks)) e in
-      let b : 11 + n < length ks = omega (arith, simp length-drop at l) in
-      key-left g (11 + n) b
+      let b : SHORT-KEYS + n < length ks = omega (arith, simp length-drop at l) in
+      key-left g (SHORT-KEYS + n) b
       (rw (h, e, getD-drop SHORT-KEYS ks n []))
-      (rw (h, e, getD-drop SHORT-KEYS ks n [], ne-eqb (11 + n) DD-KEY (λ r. omega arith), le-ltb (11 + n) SHORT-KEYS (omega arith), lt-ltb (11 + n) (length ks) b))
+      (rw (h, e, getD-drop SHORT-KEYS ks n [], ne-eqb (SHORT-KEYS + n) DD-KEY (λ r. omega arith), le-ltb (SHORT-KEYS + n) SHORT-KEYS (omega arith), lt-ltb (SHORT-KEYS + n) (length ks) b))
 
   -- a DD that has none
   long-left : (g : Segment) → eqb (g .key) DD-KEY ≡ true → hasShort ks (g .kind) ≡ false → all isPrintable (g .kind) ≡ true → Left ks g
   unfolding segmentText longDd spelled all nonEmpty keyRun
   long-left g h e p =
       let d = getD ks DD-KEY [] in
-      let l : 9 < length ks = omega (arith, table-length) in
+      let l : DD-KEY < length ks = omega (arith, table-length) in
       let k = g .kind in
       record {
         text = d ++ 46 ∷ quoted k;
@@ -426,7 +426,7 @@ module _ (a : Attributes) where
   dds-in : ddsOf (segmentsIn a order) ≡ a .dds
   unfolding segmentsIn all
   dds-in =
-      let js = G ∷ I ∷ S ∷ GQ ∷ OU-KEY ∷ O ∷ PRMD ∷ ADMD ∷ C ∷ [] in
+      let js = CN ∷ G ∷ I ∷ S ∷ GQ ∷ OU-KEY ∷ O ∷ PRMD ∷ ADMD ∷ C ∷ [] in
       dds-append (segmentsAt a DD-KEY) (segmentsIn a js) ∙ rw (dds-none js refl, at-dds a DD-KEY refl, dds-dds (a .dds)) (append-nil (a .dds))
 
   -- each attribute that a record has once
@@ -460,6 +460,7 @@ module _ (a : Attributes) where
         single-value ADMD refl,
         single-value PRMD refl,
         single-value O refl,
+        single-value CN refl,
         single-value S refl,
         single-value G refl,
         single-value I refl,
@@ -468,7 +469,7 @@ module _ (a : Attributes) where
         reverse-reverse (a .units),
         dds-in,
       )
-      (ap (λ (ss : List (List ℕ)). some (record { single = ss; units = a .units; dds = a .dds })) (sym (listed (a .single) 0 8 l)))
+      (ap (λ (ss : List (List ℕ)). some (record { single = ss; units = a .units; dds = a .dds })) (sym (listed (a .single) 0 singleCount l)))
 
 pub named-written : (ks : Keys) (a : Attributes) → length (a .single) ≡ singleCount → named (map (spelled ks) (segmentsIn a order)) ≡ some (spelledAttributes ks a)
 unfolding spelledAttributes
@@ -608,13 +609,15 @@ module _ (n : ℕ) (a : Attributes) where
   keys-in (j ∷ js) =
       all-append (λ g. leb (min n ownLevels) (g .key)) (segmentsAt (remaining n a) j) (segmentsIn (remaining n a) js) ∙ and-both (keys-at j) (keys-in js)
 
-  -- S or a DD is there
+  -- S, CN or a DD is there
   some-in : identified a ≡ true → nonEmpty (segmentsIn (remaining n a) order) ≡ true
   unfolding identified isSingle times one remaining
   some-in h =
       let b = remaining n a in
-      or-cases (nonEmpty (singleOf a S)) (nonEmpty (a .dds)) h
+      or-cases (nonEmpty (singleOf a S) || nonEmpty (singleOf a CN)) (nonEmpty (a .dds)) h
+      (λ f. or-cases (nonEmpty (singleOf a S)) (nonEmpty (singleOf a CN)) f
       (λ e. some-values S (segmentsIn b order) (rw (single-in b S refl, single-left n a S (omega arith), e)))
+      (λ e. some-values CN (segmentsIn b order) (rw (single-in b CN refl, single-left n a CN (omega arith), e))))
       (λ e. some-dds (segmentsIn b order) (rw (dds-in b) e))
 
 -- ---- the theorems

@@ -18,7 +18,7 @@ use Rattle.chars.proofs.Laws.Case.{equal-path}
 use Rattle.chars.proofs.Laws.Parts.{clear, join-split}
 use Rattle.chars.proofs.Laws.Seq.{absent-is}
 use Rattle.mailaddr.specs.Domain.{isDomain}
-use Rattle.oraddr.specs.Bounds.{C, ADMD, C-LETTERS, boundOf, isCountry, isSpace, isValue, levelCount, rule}
+use Rattle.oraddr.specs.Bounds.{C, ADMD, C-LETTERS, OU, boundOf, isCountry, isSpace, isValue, levelCount, rule}
 use Rattle.oraddr.specs.Canonical.{isUnit}
 use Rattle.table.specs.Table.{Token}
 use Rattle.table.specs.Lines.{areFields, isField, isLevel, isPath}
@@ -69,7 +69,7 @@ field-clear : (k : ℕ) (s : Token) → isField k s ≡ true → clear 10 s ≡ 
 unfolding isField isLevel isUnit all
 field-clear k s h =
     or-cases (isLevel k s) (eqb k 2 && not (nonEmpty s)) h
-    (λ g. by-test (ltb k 4) (λ e. rule-clear k s (rw e at g)) (λ e. value-clear 8 s (rw e at g)))
+    (λ g. by-test (ltb k 4) (λ e. rule-clear k s (rw e at g)) (λ e. value-clear OU s (rw e at g)))
     (λ g. rw (absent-is s (not-true (nonEmpty s) (and-right (eqb k 2) (not (nonEmpty s)) g))))
 
 pub fields-clear : (k : ℕ) (fs : List Token) → areFields k fs ≡ true → all (clear 10) fs ≡ true

@@ -14,7 +14,7 @@ use Rattle.chars.specs.Lists.{all, nonEmpty}
 use Rattle.chars.proofs.Laws.Lists.{all-append, and-both, and-left, and-right, by-test, true-not-false}
 use Rattle.oraddr.specs.Add.{Outcome, addSingle, addUnit}
 use Rattle.oraddr.specs.Attributes.{Attributes, Dd, levels, singleOf}
-use Rattle.oraddr.specs.Bounds.{most, rule}
+use Rattle.oraddr.specs.Bounds.{most, rule, singleCount}
 use Rattle.oraddr.specs.Canonical.{allKept, isUnit, kept}
 use Rattle.oraddr.specs.View.{emptyRecord, view}
 use Rattle.oraddr.specs.declared.record.Record.{Record}
@@ -28,7 +28,7 @@ use Rattle.table_settle.proofs.Laws.Settle.{level-omitted, level-single
 
 -- the attributes with tokens at the levels from C on: the first four a record has once, the others are units
 abbrev pub levelled : List Token → Attributes
-levelled ts = record { single = take 4 ts ++ replicate (8 - length (take 4 ts)) []; units = drop 4 ts; dds = [] }
+levelled ts = record { single = take 4 ts ++ replicate (singleCount - length (take 4 ts)) []; units = drop 4 ts; dds = [] }
 
 -- A record as it is made here, that has the tokens and nothing else.
 pub record LevelsMade (ts : List Token) (r : Record) : Type 0 where

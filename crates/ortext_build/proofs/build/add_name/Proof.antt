@@ -9,7 +9,7 @@ use lib.ListN.{length, drop, length-drop}
 use lib.Seq.{length-take-le, take-all}
 use Rattle.chars.specs.Lists.{nonEmpty}
 use Rattle.oraddr.specs.Add.{told}
-use Rattle.oraddr.specs.Bounds.{G, I}
+use Rattle.oraddr.specs.Bounds.{G, I, S}
 use Rattle.oraddr.specs.declared.add.Added.the-variants.{Done}
 use Rattle.ortext_build.specs.Adding.{addName, addSingles, start}
 use Rattle.ortext_name.specs.Places.{lettersAt, nameAt}
@@ -19,18 +19,18 @@ use Rattle.ortext_build.proofs.build.add_name.Statement.{statement}
 use Rattle.ortext_build.proofs.build.add_name.Tie as tie
 
 -- the surname is all that is left of the text
-surname : (c : tie.After-add-value) → let a = c .before .before .before .args in told (c .add-value .result) ≡ addSingles 4 (drop (a .places .surname) (a .text .now) ∷ []) (start (a .rec))
+surname : (c : tie.After-add-value) → let a = c .before .before .before .args in told (c .add-value .result) ≡ addSingles S (drop (a .places .surname) (a .text .now) ∷ []) (start (a .rec))
 surname c =
     let a = c .before .before .before .args in
     let s = drop (a .places .surname) (a .text .now) in
-    c .add-value .ensures ∙ ap (λ t. addSingles 4 (t ∷ []) (start (a .rec))) (take-all (length (a .text .now) - a .places .surname) s (rw length-drop (omega arith)))
+    c .add-value .ensures ∙ ap (λ t. addSingles S (t ∷ []) (start (a .rec))) (take-all (length (a .text .now) - a .places .surname) s (rw length-drop (omega arith)))
 
 returns : tie.Need-returns
 unfolding nameAt
 returns c =
     let t = c .before .before .before .before .before in
     let r = c .before .before .add-value .result in
-    sym (name-next (t .args .rec) (nameAt (t .args .text .now) (t .args .places)) (told r) (surname (c .before .before)) ∙ singles-stop 5 _ (told r) (told-refused r (c .enum-told .given .1)))
+    sym (name-next (t .args .rec) (nameAt (t .args .text .now) (t .args .places)) (told r) (surname (c .before .before)) ∙ singles-stop G _ (told r) (told-refused r (c .enum-told .given .1)))
 
 slice-aggregate-add-value : tie.Need-slice-aggregate-add-value
 slice-aggregate-add-value c = sym (length-take-le _ _ (c .before .before .before .before .before .before .pre .given))
@@ -41,7 +41,7 @@ returns-2 c =
     let t = c .before .before .before .before .before .before .before .before .before in
     let a = c .before .before .before .before .before .before .add-value .result in
     let r = c .before .before .add-value2 .result in
-    sym (name-last (t .args .rec) (nameAt (t .args .text .now) (t .args .places)) (told a) (told r) (surname (c .before .before .before .before .before .before)) (c .before .before .add-value2 .ensures ∙ ap (addSingles 5 _) (sym (told-done a (c .before .before .before .before .enum-told2 .given .1)))) ∙ singles-stop 6 _ (told r) (told-refused r (c .enum-told3 .given .1)))
+    sym (name-last (t .args .rec) (nameAt (t .args .text .now) (t .args .places)) (told a) (told r) (surname (c .before .before .before .before .before .before)) (c .before .before .add-value2 .ensures ∙ ap (addSingles G _) (sym (told-done a (c .before .before .before .before .enum-told2 .given .1)))) ∙ singles-stop I _ (told r) (told-refused r (c .enum-told3 .given .1)))
 
 -- the surname and the given name are added
 module _ (c : tie.After-add-value2) (given : c .before .before .before .before .add-value .result .answer ≡ Done) where

@@ -4,6 +4,7 @@ use native.Mathlib.Omega.{arith}
 use lib.Dec.{lit<}
 use Rattle.oraddr.specs.View.{unitView}
 use Rattle.chars.proofs.Laws.Seq.{part-is, part-length, part-within}
+use Rattle.ortext_segments.specs.Keys.{OU-KEY}
 use Rattle.ortext_write.proofs.Laws.Write.{plain-text}
 use borrow.Author.Needs.{needs}
 use Rattle.ortext_write.proofs.write.put_unit.Statement.{statement}
@@ -22,14 +23,14 @@ slice-aggregate-put-segment c = part-length (c .before .before .before .before .
 
 put-segment-requires : tie.Need-put-segment-requires
 unfolding unitView
-put-segment-requires c κs = (lit< tt, rw (part-is (c .before .before .before .before .before .args .unit .len) (c .before .before .before .before .before .args .unit .bytes) (c .before .before .before .size .result) (c .before .before .before .size .ensures)) (rw (plain-text 8 (unitView (c .before .before .before .before .before .args .unit)) (λ q. omega arith)) at (c .before .before .before .before .before .pre)))
+put-segment-requires c κs = (lit< tt, rw (part-is (c .before .before .before .before .before .args .unit .len) (c .before .before .before .before .before .args .unit .bytes) (c .before .before .before .size .result) (c .before .before .before .size .ensures)) (rw (plain-text OU-KEY (unitView (c .before .before .before .before .before .args .unit)) (λ q. omega arith)) at (c .before .before .before .before .before .pre)))
 
 same-length : tie.Need-same-length
 same-length c = search needs
 
 returns : tie.Need-returns
 unfolding unitView
-returns c = rw (plain-text 8 (unitView (c .before .before .before .before .before .before .before .before .args .unit)) (λ q. omega arith)) (rw (part-is (c .before .before .before .before .before .before .before .before .args .unit .len) (c .before .before .before .before .before .before .before .before .args .unit .bytes) (c .before .before .before .before .before .before .size .result) (c .before .before .before .before .before .before .size .ensures)) at (c .before .before .put-segment .ensures))
+returns c = rw (plain-text OU-KEY (unitView (c .before .before .before .before .before .before .before .before .args .unit)) (λ q. omega arith)) (rw (part-is (c .before .before .before .before .before .before .before .before .args .unit .len) (c .before .before .before .before .before .before .before .before .args .unit .bytes) (c .before .before .before .before .before .before .size .result) (c .before .before .before .before .before .before .size .ensures)) at (c .before .before .put-segment .ensures))
 
 pub put-unit-spec : {M : Type 1} → statement M
 put-unit-spec = tie.close (tie.spec size-requires array-share-prefix-bytes slice-aggregate-put-segment put-segment-requires same-length returns)
