@@ -4,7 +4,7 @@ tests/rules.py, and runs nothing of the library. Run it from the repository's ro
 import random
 import re
 
-from rules import ATOM, PRINTABLE, is_atoms
+from rules import LONGEST_ADDRESS, PRINTABLE, is_atoms
 
 LETTERS = {b"@": b"a", b"%": b"p", b"!": b"b", b'"': b"q", b"_": b"u", b"(": b"l", b")": b"r"}
 _QUOTED = re.compile(rb'"((?:[ !#-\[\]-~]|\\[ -~])*)"')
@@ -82,7 +82,7 @@ class Cases:
 
     def shape(self, s):
         found = shape(s)
-        if len(s) > 2048:
+        if len(s) > LONGEST_ADDRESS:
             answer = b"2"
         elif found is None:
             answer = b"1"
@@ -118,8 +118,9 @@ SHAPES = [
     b"@b", b"a@@b", b"a@b@c", b".a@b", b"a.@b", b"a..b@c", b"a@.b", b"a@b.", b"a@b..c", b"a b@c", b'"a@b"@c', b"a@[1.2.3.4]", b"a@b c", b"a,b@c",
     b'"\x7f"@b', b'"\x1f"@b', b'"\\\x1f"@b', b'"\\ "@b', b'" a"@b', b'"a  b"@c.test', b"jj@seismo.css.gov", b"a@b\n", b"a\\b@c", b"(a)@b", b"a_b@else.test",
     b'"/S=Lee/OU=Fender Two/"@brack.tow.test', b"Ann.Lee@brack.tow.test", b"a\x80@b", b'"a\x80"@b',
-    b"x" * 2046 + b"@b", b"x" * 2047 + b"@b", b'"' + b"x" * 2044 + b'"@b', b'"' + b"x" * 2045 + b'"@b',
 ]
+# Lengths about the longest address, and about the one that it was before common names.
+LENGTHS = [2047, 2048, 2049, LONGEST_ADDRESS - 1, LONGEST_ADDRESS, LONGEST_ADDRESS + 1]
 # The worked coding examples of documents 000 3.4, 001 3.3.3 and 002 3.4; document 01 overrides the lone parenthesis.
 CODES = [b"'a demo.'", b"foo@bar", b'"_%"', b"@", b"(a)", b"~", b"(", b")", b"_", b"!", b"jj@seismo.css.gov", b'"a  b"@c.test', b"a   b", b" ", b"  ",
          b"H.Hildegard@bbn.com", b"/PN=Duval/DD.Title=Manager/@Inria.ATLAS.FR", b"/PN=Duval/DD.Title=Manager/@FR.PTT.Inria"]
@@ -135,6 +136,9 @@ def main():
     c = Cases()
     for s in SHAPES:
         c.shape(s)
+    for n in LENGTHS:
+        for s in (b"x" * (n - 2) + b"@b", b'"' + b"x" * (n - 4) + b'"@b', b"a@" + b"x" * (n - 2), b"@" * n):
+            c.shape(s)
     for s in (b"a.b@c.d", b'"a b"@c.d', b'"\\a"@c'):
         for i in range(len(s) + 1):
             for b in range(256):

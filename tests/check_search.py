@@ -72,7 +72,7 @@ def is_part(token):
 
 
 def comes_back(rows, levels):
-    """Whether a record with these eight levels, C and ADMD among them, and a surname comes back."""
+    """Whether a record with these eight levels, C and ADMD among them, and a surname or a common name comes back."""
     found = longest(rows.r, levels)
     if found is None:
         return True

@@ -37,14 +37,13 @@ def settle(table, domain):
 
 def key_faults(segments):
     """The clauses on keys that hold of the segments of a record text."""
-    once = ("PN", "C", "ADMD", "PRMD", "O", "S", "G", "I", "GQ")
     keys = [k for k, _, _ in segments]
-    known = once + ("OU", "RFC-822")
+    known = rules.ONCE + ["OU", "RFC-822"]
     if any(k not in known and not (k == "DD" and t is not None) for k, t, _ in segments):
         yield "unknown key"
-    if any(keys.count(k) > 1 for k in once):
+    if any(keys.count(k) > 1 for k in rules.ONCE):
         yield "repeated key"
-    if "PN" in keys and any(k in keys for k in ("S", "G", "I", "GQ")):
+    if "PN" in keys and any(k in keys for k in rules.PERSONAL):
         yield "PN beside a name"
     if "PN" in keys and rules.read_name([v for k, _, v in segments if k == "PN"][0]) is None:
         yield "PN is no name"
@@ -109,7 +108,7 @@ def to_record(text, s):
     table = load(text)
     if isinstance(table, int):
         return 7, table, None
-    if len(s) > 2048:
+    if len(s) > rules.LONGEST_ADDRESS:
         return 2, 0, None
     if shape(s) is None:
         return 1, 0, None
@@ -133,7 +132,7 @@ def levels(record):
 
 def is_carrier(table, record):
     path = [f.lower() for f in table[0][2] + [b""] * 8][:8]
-    named = any(k in record["one"] for k in ("S", "G", "I", "GQ"))
+    named = any(k in record["one"] for k in rules.PERSONAL + ["CN"])
     dds = record["DD"]
     return [f.lower() for f in levels(record)] == path and not named and len(dds) == 1 and dds[0][0].lower() == b"rfc-822"
 

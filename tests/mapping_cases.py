@@ -1,9 +1,9 @@
 #!/usr/bin/env python3
 """Writes the cases of crates/mapping_cases: the tables in its data/, its stdin, and what must come out (its stdout).
 
-The cases are of two kinds. Those of tests/vectors/ have answers that an implementation of document 01 gave which was written apart
-from the library, and a second one confirmed. The others stand in this file, and are answered by tests/mapping.py, plain Python that
-follows document 01 by itself. Nothing of the library is run. Run it from the repository's root."""
+The cases are of two kinds. Those of tests/vectors/ have their answers stored (tests/stored.py). The others stand in this file, and are
+answered by tests/mapping.py, plain Python that follows document 01 and request 12 by itself, and that must give the stored answers too.
+Nothing of the library is run. Run it from the repository's root."""
 import base64
 import glob
 import json
@@ -11,10 +11,16 @@ import os
 
 import mapping
 import rules
+import stored
+from rules import LONGEST_ADDRESS
 from table_cases import load
 
 CRATE = "crates/mapping_cases/"
-NAMES = ["C", "ADMD", "PRMD", "O", "S", "G", "I", "GQ"]
+# The room of the program for its input; and what a program may write, at most, when it is run.
+ROOM = 2097152
+MOST_WRITTEN = 1048576
+# The longest address of a canonical record.
+LONGEST_OF_RECORD = 2122
 
 # The table of document 01's `orroute`, a row that settles all levels but OU4, and one that settles PRMD as omitted.
 GATEWAY = b"G\tgw.survey.test\tXY\t \tSURVEY\n"
@@ -34,14 +40,19 @@ CLAUSES = [
     ("spaces", b'"Lee "@brack.tow.test', b'"Leex"@brack.tow.test'),
     ("other character", b"Ann_Lee@brack.tow.test", b"Ann-Lee@brack.tow.test"),
     ("no reading", b'"Ann."@brack.tow.test', b'"Ann.L"@brack.tow.test'),
-    ("unknown key", b"/S=Lee/CN=x/@brack.tow.test", b"/S=Lee/GQ=x/@brack.tow.test"),
+    ("unknown key", b"/S=Lee/OU1=x/@brack.tow.test", b"/S=Lee/CN=x/@brack.tow.test"),
     ("unknown key", b"/S=Lee/DD=x/@brack.tow.test", b"/S=Lee/DD.t=x/@brack.tow.test"),
     ("repeated key", b"/S=Lee/S=Lee/@brack.tow.test", b"/S=Lee/OU=Lee/OU=Lee/@brack.tow.test"),
+    ("repeated key", b"/CN=x/cn=x/@brack.tow.test", b"/CN=x/S=x/@brack.tow.test"),
     ("PN beside a name", b"/PN=Lee/GQ=x/@brack.tow.test", b"/PN=Lee/OU=x/@brack.tow.test"),
+    ("PN beside a name", b"/PN=Lee/CN=x/S=x/@brack.tow.test", b"/PN=Lee/CN=x/@brack.tow.test"),
     ("PN is no name", b'"/PN=Ann./"@brack.tow.test', b'"/PN=Ann.L/"@brack.tow.test'),
     ("named again", b"/S=Lee/O=brack/@brack.tow.test", b"/S=Lee/OU=brack/@brack.tow.test"),
     ("named again", b"/S=Lee/PRMD=x/@gap.test", b"/S=Lee/O=x/@gap.test"),
     ("not canonical", b"/G=Ann/@brack.tow.test", b"/G=Ann/S=Lee/@brack.tow.test"),
+    ("not canonical", b"/CN=x/G=Ann/@brack.tow.test", b"/CN=x/@brack.tow.test"),
+    ("not canonical", b"/S=Lee/CN=/@brack.tow.test", b"/S=Lee/CN=L/@brack.tow.test"),
+    ("not canonical", b"/CN=" + b"x" * 65 + b"/@brack.tow.test", b"/CN=" + b"x" * 64 + b"/@brack.tow.test"),
     ("not canonical", b"/S=Lee/OU=a/OU=b/OU=c/OU=d/OU=e/@tow.test", b"/S=Lee/OU=a/OU=b/OU=c/OU=d/@tow.test"),
     ("not canonical", b"/DD.a=1/DD.b=2/DD.c=3/DD.d=4/DD.e=5/@tow.test", b"/DD.a=1/DD.b=2/DD.c=3/DD.d=4/@tow.test"),
     ("not canonical", b"/S=Lee/PRMD=/ADMD=P/C=XY/@gw.survey.test", b"/S=Lee/PRMD=Q/ADMD=P/C=XY/@gw.survey.test"),
@@ -69,6 +80,7 @@ class Cases:
                     t.write(table)
                 f.write(b"T\t" + name.encode() + b"\n" + b"".join(self.lines[table]))
                 g.write(b"".join(self.out[table]))
+            assert f.tell() <= ROOM and g.tell() <= MOST_WRITTEN
 
 
 def digits(n):
@@ -91,17 +103,17 @@ def value(k, s, size=None):
 
 
 def unit(i, s, count, size=None):
-    return part(8 + i, count, digits(len(s) if size is None else size), s[:32])
+    return part(len(rules.SINGLES) + i, count, digits(len(s) if size is None else size), s[:32])
 
 
 def dd(i, t, v, count, sizes=None):
     t_size, v_size = sizes or (len(t), len(v))
-    return part(12 + i, count, digits(t_size), t[:8].ljust(8, b"\0"), digits(v_size), v[:128])
+    return part(len(rules.SINGLES) + 4 + i, count, digits(t_size), t[:8].ljust(8, b"\0"), digits(v_size), v[:128])
 
 
 def record_parts(one, units, dds):
     """A record as it is filled, what does not fit its room cut off, its length as it is."""
-    found = [value(k, one[name]) for k, name in enumerate(NAMES) if one.get(name)]
+    found = [value(k, one[name]) for k, name in enumerate(rules.SINGLES) if one.get(name)]
     found += [unit(i, u, len(units)) for i, u in enumerate(units[:4])]
     return found + [dd(i, t, v, len(dds)) for i, (t, v) in enumerate(dds[:4])]
 
@@ -122,58 +134,67 @@ def address_answer(number, at_line, text, room):
     return b"%d\t%d %d %s =\n" % (at_line if number == 7 else 0, number, len(shown), shown.hex().encode())
 
 
-def from_maps(cases):
-    raw = lambda s: base64.b64decode(s) if s else b""
-    for text in open("tests/vectors/maps.jsonl"):
-        case = json.loads(text)
-        if case["fn"] == "tail":
-            continue
-        lines, out = cases.under(raw(case["table"]))
-        given = case["record"] or {}
-        one = {k: raw(given.get(k)) for k in NAMES if given.get(k)}
-        units = [raw(u) for u in given.get("OU", [])]
-        dds = [(raw(t), raw(v)) for t, v in given.get("DD", [])]
-        if case["fn"] == "a2r":
-            lines.append(line(b"A", raw(case["addr"])))
-            text = rules.record_text({"one": one, "OU": units, "DD": dds}) if case["number"] == 0 else b""
-            out.append(record_answer(case["number"], case["line"], text))
-        else:
-            lines.append(record_line(case["room"], record_parts(one, units, dds)))
-            out.append(address_answer(case["number"], case["line"], raw(case["text"]), case["room"]))
-
-
-def from_runs(cases):
-    """The runs of `orroute`: its A and O lines. (Lines of another form are the router's.)"""
-    for folder in sorted(glob.glob("tests/vectors/runs/*")):
-        table = open(folder + "/table.tsv", "rb").read()
-        lines, out = cases.under(table)
-        given = open(folder + "/stdin", "rb").read().split(b"\n")
-        expected = open(folder + "/expected", "rb").read().split(b"\n")
-        for text, answer in zip(given, expected):
-            if text[:2] not in (b"A\t", b"O\t") or len(text) > 4096:
-                continue
-            number, _, shown = answer.partition(b"\t")
-            if number == b"7":
-                continue
-            if text[:1] == b"A":
-                lines.append(line(b"A", text[2:]))
-                out.append(record_answer(int(number), 0, shown))
-            else:
-                lines.append(line(b"O", digits(2048), text[2:]))
-                out.append(address_answer(int(number), 0, shown, 2048))
-
-
 def add_address(cases, table, s):
     lines, out = cases.under(table)
     lines.append(line(b"A", s))
     number, at_line, found = mapping.to_record(table, s)
     out.append(record_answer(number, at_line, rules.record_text(found) if number == 0 else b""))
+    return out[-1]
 
 
 def add_record(cases, table, record, room):
     lines, out = cases.under(table)
     lines.append(record_line(room, record_parts(record["one"], record["OU"], record["DD"])))
     out.append(address_answer(*mapping.to_address(table, record, room), room))
+    return out[-1]
+
+
+def add_text(cases, table, record, room):
+    """The same by the record's text, for what is present and empty there: a record of the library has no such value."""
+    lines, out = cases.under(table)
+    lines.append(line(b"O", digits(room), rules.record_text(record)))
+    out.append(address_answer(*mapping.to_address(table, record, room), room))
+    return out[-1]
+
+
+def raw(s):
+    return base64.b64decode(s) if s else b""
+
+
+def stored_record(given):
+    one = {k: raw(given[k]) for k in rules.SINGLES if given.get(k) is not None}
+    return {"one": one, "OU": [raw(u) for u in given["OU"]], "DD": [(raw(t), raw(v)) for t, v in given["DD"]]}
+
+
+def from_maps(cases):
+    for text in stored.lines("maps.jsonl"):
+        case = json.loads(text)
+        if case["fn"] == "a2r":
+            found = add_address(cases, raw(case["table"]), raw(case["addr"]))
+            done = rules.record_text(stored_record(case["record"])) if case["number"] == 0 else b""
+            assert found == record_answer(case["number"], case["line"], done), text
+        elif case["fn"] == "r2a":
+            given = stored_record(case["record"])
+            add = add_text if b"" in given["one"].values() else add_record
+            found = add(cases, raw(case["table"]), given, case["room"])
+            assert found == address_answer(case["number"], case["line"], raw(case["text"]), case["room"]), text
+
+
+def from_runs(cases):
+    """The runs of `orroute` in the first set: its A and O lines. (Lines of another form are the router's; all runs are in route_cases.)"""
+    for folder in stored.runs(stored.SETS[:1]):
+        table, given, expected = (open(folder + name, "rb").read() for name in ("table.tsv", "stdin", "expected"))
+        lines, out = cases.under(table)
+        for text, answer in zip(given.split(b"\n"), expected.split(b"\n")):
+            number, _, shown = answer.partition(b"\t")
+            if text[:2] not in (b"A\t", b"O\t") or len(text) > 4096 or number == b"7":
+                continue
+            if text[:1] == b"A":
+                lines.append(line(b"A", text[2:]))
+                out.append(record_answer(int(number), 0, shown))
+            else:
+                lines.append(line(b"O", digits(LONGEST_ADDRESS), text[2:]))
+                out.append(address_answer(int(number), 0, shown, LONGEST_ADDRESS))
 
 
 def from_clauses(cases):
@@ -191,14 +212,24 @@ def record(one, units=(), dds=()):
 LEE = {"C": b"XY", "ADMD": b"PORTNET", "PRMD": b"TOW", "S": b"Lee"}
 
 
+def readable_address(n):
+    """An address of n bytes that is read: each character of its values stands behind a `$`, and as many as are needed behind a backslash."""
+    text, end = (b"/DD.t=" + b"$v" * 128) * 4 + b"/CN=" + b"$x" * 64 + b"/", b'"@tow.test'
+    escaped = n - len(text) - len(end) - 1
+    return b'"' + b"".join(b"\\%c" % b for b in text[:escaped]) + text[escaped:] + end
+
+
 def from_edges(cases):
     """Both sides of document 01's edges, the order of the refusals, and buffers that are too short, just long enough and longer."""
     for n in (63, 64):
-        add_record(cases, PORTS, record({**LEE, "O": b"o" * n}), 2048)
+        add_record(cases, PORTS, record({**LEE, "O": b"o" * n}), LONGEST_ADDRESS)
     for n in (116, 117):
         add_address(cases, PORTS, b"x" * n + b"@else.test")
-    # 2 before 1, 1 before 3
-    for s in (b"x" * 2049, b"x" * 2048, b"x" * 2038 + b"@else.test", b"x" * 2039 + b"@else.test", b"a@@b", b""):
+    # 2 before 1, 1 before 3; what was too long before common names is so no more
+    for n in (2048, 2049, LONGEST_ADDRESS - 1, LONGEST_ADDRESS, LONGEST_ADDRESS + 1):
+        for s in (b"x" * n, b"x" * (n - 10) + b"@else.test", b'"' + b"x" * (n - 11) + b'"@tow.test', readable_address(n)):
+            add_address(cases, PORTS, s)
+    for s in (b"a@@b", b""):
         add_address(cases, PORTS, s)
     for table in (b"", PORTS[:-1], PORTS + b"\n"):
         add_address(cases, table, b"a@@b")
@@ -210,25 +241,69 @@ def from_edges(cases):
     ]
     for r in samples:
         n = len(mapping.to_address(PORTS, r, 4096)[2])
-        for room in (0, 1, n - 1, n, n + 1, 2048, 4096):
+        for room in (0, 1, n - 1, n, n + 1, LONGEST_ADDRESS, 4096):
             add_record(cases, PORTS, r, room)
     bad = record({"C": b"XY", "ADMD": b" ", "PRMD": b"SURVEY"}, dds=[(b"RFC-822", b"a(128)")])
     shapeless = record({"C": b"XY", "ADMD": b" ", "PRMD": b"SURVEY"}, dds=[(b"RFC-822", b"a(a)(a)b")])
     none = record({"C": b"XY", "ADMD": b" ", "PRMD": b"SURVEY", "G": b"Ann"}, dds=[(b"RFC-822", b"a(128)")])
     # 5 before 6, 4 before 5, 7 before 4
     for r in (bad, shapeless, none):
-        for room in (0, 2048):
+        for room in (0, LONGEST_ADDRESS):
             add_record(cases, PORTS, r, room)
-    # every level, the longest values, nothing but quoted characters
-    longest = {"C": b"XY", "ADMD": b"=" * 16, "PRMD": b"=" * 16, "O": b"=" * 64, "S": b"=" * 40, "G": b"=" * 16, "I": b"=" * 5, "GQ": b"=" * 3}
-    add_record(cases, PORTS, record(longest, [b"/" * 32] * 4, [(b"/" * 8, b"=" * 128)] * 4), 4096)
+
+
+def add_both(cases, table, r):
+    """A record that is no carrier, and its address back, which is the same record; returns the address."""
+    number, _, s = mapping.to_address(table, r, LONGEST_ADDRESS)
+    assert number == 0 and mapping.to_record(table, s) == (0, 0, r), r
+    for room in (len(s) - 1, len(s), LONGEST_ADDRESS):
+        add_record(cases, table, r, room)
+    add_address(cases, table, s)
+    return s
+
+
+DESK = {"C": b"XY", "ADMD": b"PORTNET", "PRMD": b"TOW", "CN": b"Night Desk"}
+
+
+def from_common(cases):
+    """Common names, under rows and at the gateway, and carriers but for one."""
+    for common in (b"Desk", b"Night Desk", b"Ann.Lee", b"Lee", b"/S=a", b"x" * 63, b"x" * 64, b"=" * 64, b"'+,-./:=?()"):
+        for name in ({}, {"S": b"Lee"}, {"S": b"Lee", "G": b"Ann", "I": b"M", "GQ": b"II"}):
+            for levels in ({}, {"O": b"brack"}, {"O": b"Fender Two"}, {"PRMD": b"", "O": b"q"}, {"ADMD": b"P"}):
+                add_both(cases, TABLE, record({**DESK, "CN": common, **name, **levels}))
+    dds = [(b"RFC-822", b"a(u)b(a)else.test"), (b"t", b"v/=")]
+    gateway = {"C": b"xy", "ADMD": b" ", "PRMD": b"Survey"}
+    for found in (dds, dds[:1], dds[1:]):
+        add_both(cases, TABLE, record(DESK, [b"Fender Two", b"u"], found))
+        add_both(cases, TABLE, record({**gateway, "CN": b"Desk"}, dds=found))
+    for r in (record(gateway, dds=dds[:1]), record({**gateway, "CN": b"Desk"}, dds=[(b"RFC-822", b"a(128)")])):
+        add_record(cases, TABLE, r, LONGEST_ADDRESS)
+    for common in (b"x" * 65, b" Desk", b"Desk ", b"Night  Desk", b"Night_Desk", b"d\xe9sk"):
+        add_record(cases, TABLE, record({**DESK, "CN": common}), LONGEST_ADDRESS)
+    for name in ("G", "I", "GQ"):
+        add_record(cases, TABLE, record({**DESK, name: b"A"}), LONGEST_ADDRESS)
+    for text in (b"/CN=a/CN=a", b"/CN=", b"/PN=Ann.Lee/CN=a", b"/CN=a/OU=u", b"/CN=$/$=", b"/CN=a/PRMD=x", b"/CN=a/DD.t=v"):
+        add_address(cases, TABLE, text + b"/@brack.tow.test")
+        add_address(cases, TABLE, b'"' + text + b'/ADMD=P/C=XY/"@gw.survey.test')
+
+
+def from_longest(cases):
+    """The longest text of a record and the longest address of one: for that a character is not quoted in the text, and the text is."""
+    domain = b".".join([b"g" * 63] * 3 + [b"g" * 61])
+    table = b"G\t" + domain + b"\tXY\t \tSURVEY\n"
+    longest = rules.longest_record()
+    assert len(add_both(cases, table, longest)) == len(rules.record_text(longest)) + 1 + len(domain)
+    longest["one"]["CN"] = b"," + longest["one"]["CN"][1:]
+    assert len(add_both(cases, table, longest)) == LONGEST_OF_RECORD
+    add_both(cases, PORTS, longest)
+    add_both(cases, PORTS, {**longest, "one": {**longest["one"], "C": b"XY", "ADMD": b"PORTNET", "PRMD": b"TOW"}})
 
 
 def from_disturbed(cases):
     """Records whose lengths and counts are out of range: 4, and the buffer as before."""
     lines, out = cases.under(PORTS)
     good = record_parts({**LEE, "O": b"brack"}, [b"u"], [(b"t", b"v")])
-    parts = [value(k, b"XY", size) for k in range(8) for size in (65, 9999)]
+    parts = [value(k, b"XY", size) for k in range(len(rules.SINGLES)) for size in (65, 9999)]
     parts += [unit(1, b"u", 2, size) for size in (33, 9999)]
     parts += [dd(1, b"t", b"v", 2, sizes) for sizes in ((9, 1), (9999, 1), (1, 129), (1, 9999))]
     parts += [unit(0, b"u", count) for count in (5, 9999)] + [dd(0, b"t", b"v", count) for count in (5, 9999)]
@@ -276,8 +351,8 @@ def add_pair(cases, table, address, text, ways):
         lines.append(line(b"A", address))
         out.append(record_answer(0, 0, text))
     if "O" in ways:
-        lines.append(line(b"O", digits(2048), text))
-        out.append(address_answer(0, 0, address, 2048))
+        lines.append(line(b"O", digits(LONGEST_ADDRESS), text))
+        out.append(address_answer(0, 0, address, LONGEST_ADDRESS))
 
 
 def from_worked(cases):
@@ -294,6 +369,8 @@ def main():
     from_runs(cases)
     from_clauses(cases)
     from_edges(cases)
+    from_common(cases)
+    from_longest(cases)
     from_disturbed(cases)
     from_worked(cases)
     cases.write()

@@ -7,7 +7,6 @@ at odd places, into a slow reader, with lines at the limit, and with tables that
 What must come out is stored beside each run; where nothing is stored, it is what the plain program of docs/src/ writes. Run it from the
 repository's root after `rt check orroute` and tests/plain_vectors.py. The last line counts the runs; the first that differs ends it."""
 import fcntl
-import glob
 import os
 import shutil
 import stat
@@ -16,6 +15,8 @@ import sys
 import tempfile
 import termios
 import time
+
+import stored
 
 PROGRAM = os.path.abspath(sys.argv[1] if len(sys.argv) > 1 else "target/bin/orroute")
 PLAIN = os.path.abspath(sys.argv[2] if len(sys.argv) > 2 else "docs/src/target/release/plain-orroute")
@@ -109,10 +110,7 @@ def plain(where, text):
 
 
 def stored_runs():
-    folders = sorted(glob.glob("tests/vectors/runs/*/"))
-    if not folders:
-        sys.exit("no stored runs: run it from the repository's root")
-    for folder in folders:
+    for folder in stored.runs():
         where, text, expected = os.path.abspath(folder), read(folder + "stdin"), read(folder + "expected")
         run(folder + " whole", where, text, expected)
         run_file(folder + " from a file", where, folder + "stdin", expected)

@@ -3,14 +3,16 @@
 bad lines and witnesses, the dates, the mailboxes and the restricted encoding. Needs cargo. Run it from the repository's root; its last line counts
 what agrees, and it fails on the first kind that does not."""
 import base64
-import glob
 import json
+import os
 import subprocess
 import sys
 
+import stored
+
 SOURCE = "docs/src/"
 BUILT = SOURCE + "target/release/"
-NAMES = ["C", "ADMD", "PRMD", "O", "S", "G", "I", "GQ"]
+NAMES = ["C", "ADMD", "PRMD", "O", "S", "G", "I", "GQ", "CN"]
 
 
 def hexed(text):
@@ -18,7 +20,7 @@ def hexed(text):
 
 
 def record_fields(record):
-    values = ["-" if record[name] is None else hexed(record[name]) for name in NAMES]
+    values = ["-" if record.get(name) is None else hexed(record[name]) for name in NAMES]
     units = "".join(hexed(unit) + "," for unit in record["OU"])
     dds = "".join(hexed(kind) + ":" + hexed(value) + "," for kind, value in record["DD"])
     return "\t".join(values + [units, dds])
@@ -36,7 +38,7 @@ def record_text(record):
         return segment(b"DD." + kind.replace(b"/", b"$/").replace(b"=", b"$="), value)
 
     out = [dd(kind, value) for kind, value in record["DD"]]
-    out += [segment(name.encode(), record[name]) for name in ["G", "I", "S", "GQ"] if record[name] is not None]
+    out += [segment(name.encode(), record[name]) for name in ["CN", "G", "I", "S", "GQ"] if record.get(name) is not None]
     out += [segment(b"OU", unit) for unit in reversed(record["OU"])]
     out += [segment(name.encode(), record[name]) for name in ["O", "PRMD", "ADMD", "C"] if record[name] is not None]
     return b"".join(out) + b"/"
@@ -93,30 +95,29 @@ def calls(kind, cases):
     return len(cases)
 
 
-def stored(kind, name, case):
-    with open("tests/vectors/" + name, encoding="ascii", newline="\n") as lines:
-        return calls(kind, [case(line) for line in lines])
+def hold(kind, name, case):
+    """Holds the lines of a name's files against the program."""
+    return calls(kind, [case(line) for line in stored.lines(name)])
 
 
 def runs():
-    done = 0
-    for run in sorted(glob.glob("tests/vectors/runs/*/")):
+    program, folders = os.path.abspath(BUILT + "plain-orroute"), stored.runs()
+    for run in folders:
         with open(run + "stdin", "rb") as given, open(run + "expected", "rb") as expected:
-            out = subprocess.run(["../../../../" + BUILT + "plain-orroute"], stdin=given, capture_output=True, check=True, cwd=run)
+            out = subprocess.run([program], stdin=given, capture_output=True, check=True, cwd=run)
             if out.stdout != expected.read():
                 print(f"{run}: another output")
                 sys.exit(1)
-        done += 1
-    return done
+    return len(folders)
 
 
 def main():
     subprocess.run(["cargo", "build", "--release", "--offline", "--quiet", "--manifest-path", SOURCE + "Cargo.toml"], check=True)
-    maps = stored("maps", "maps.jsonl", lambda line: map_case(json.loads(line)))
-    checks = stored("checks", "checks.jsonl", lambda line: check_case(json.loads(line)))
-    dates = stored("dates", "dates.tsv", date_case)
-    mailboxes = stored("mailboxes", "mailbox.tsv", mailbox_case)
-    coded = stored("restricted encoding", "restricted.tsv", restricted_case)
+    maps = hold("maps", "maps.jsonl", lambda line: map_case(json.loads(line)))
+    checks = hold("checks", "checks.jsonl", lambda line: check_case(json.loads(line)))
+    dates = hold("dates", "dates.tsv", date_case)
+    mailboxes = hold("mailboxes", "mailbox.tsv", mailbox_case)
+    coded = hold("restricted encoding", "restricted.tsv", restricted_case)
     print(f"{runs()} runs, {maps} calls, {checks} checks, {dates} dates, {mailboxes} mailboxes and {coded} texts of the restricted encoding agree")
 
 

@@ -1,8 +1,9 @@
 #!/usr/bin/env python3
 """Writes the cases of crates/record_cases (its stdin) and what must come out (its stdout).
 
-It follows document 01, "The record", by itself, in plain Python over lists, and runs nothing of the library. Run it from
+It follows document 01, "The record", and request 12 by itself, in plain Python over lists, and runs nothing of the library. Run it from
 the repository's root after a change to the cases; `git diff` then shows what moved."""
+import itertools
 import random
 import re
 
@@ -12,9 +13,11 @@ from rules import ATOM, PRINTABLE, is_text, well_spaced
 LETTERS = b"ABCDEFGHIJKLMNOPQRSTUVWXYZabcdefghijklmnopqrstuvwxyz"
 DIGITS = b"0123456789"
 LABEL = LETTERS + DIGITS + b"-"
-SINGLE = "caposgiq"
-KEY = {"c": "C", "a": "ADMD", "p": "PRMD", "o": "O", "u": "OU", "s": "S", "g": "G", "i": "I", "q": "GQ"}
+SINGLE = "caponsgiq"
+KEY = {"c": "C", "a": "ADMD", "p": "PRMD", "o": "O", "n": "CN", "s": "S", "g": "G", "i": "I", "q": "GQ", "u": "OU"}
 ROOM = {"single": 64, "u": 32, "type": 8, "value": 128}
+# The bytes of a line, at most.
+TEXT = 512
 LARGEST = 2**64 - 1
 
 
@@ -82,7 +85,7 @@ class Record:
             and all(keeps_rule("u", v) for v in units)
             and all(is_dd(t, v) for t, v in dds)
             and (a["s"] != b"" or (a["g"] == b"" and a["i"] == b"" and a["q"] == b""))
-            and (a["s"] != b"" or dds != [])
+            and (a["s"] != b"" or a["n"] != b"" or dds != [])
         )
 
     def same(self, other):
@@ -108,7 +111,7 @@ def shown(room, text):
 
 def dump(record):
     cut = lambda t: shown(t[1], t[1][: t[0]])
-    values = b"".join(cut(t) + shown(*level) for t, level in zip(record.single, record.levels()))
+    values = b"".join(cut(t) for t in record.single) + b"".join(shown(*level) for level in record.levels())
     counts = b"%d%d" % (min(record.unit_count, 4), min(record.dd_count, 4))
     lists = b"".join(cut(u) + cut(t) + cut(v) for u, (t, v) in zip(record.units, record.dds))
     return values + counts + lists
@@ -125,6 +128,7 @@ class Cases:
 
     def line(self, letter, text):
         """A line of the input: a letter, and bytes in hexadecimal."""
+        assert len(text) <= TEXT
         self.stdin += b"%s%s\n" % (letter.encode(), text.hex().encode())
 
     def command(self, letter, number, text):
@@ -190,12 +194,12 @@ class Cases:
 BASE = [("c", b"XY"), ("a", b"PORTNET"), ("s", b"Lee")]
 SAMPLE = {
     "c": (b"XY",), "a": (b" ",), "p": (b"TOW",), "o": (b"brack",), "u": (b"Fender Two",), "s": (b"Lee",),
-    "g": (b"Ann",), "i": (b"MT",), "q": (b"III",), "d": (b"FENDER-1", b"Rubber/2=x"),
+    "g": (b"Ann",), "i": (b"MT",), "q": (b"III",), "n": (b"Night Desk",), "d": (b"FENDER-1", b"Rubber/2=x"),
 }
 
 
 def bounds(c):
-    for kind in "apousgiq":
+    for kind in "aponsgiqu":
         most = rules.BOUND[KEY[kind]]
         for n in (0, 1, most - 1, most, most + 1):
             c.whole(*[a for a in BASE if a[0] != kind], (kind, b"x" * n))
@@ -211,6 +215,16 @@ def bounds(c):
         c.whole(BASE[0], ("a", admd), BASE[2])
 
 
+def names(c):
+    """What a record needs besides C and ADMD: each choice of CN, S, G, I, GQ and a DD."""
+    for n in range(7):
+        for kinds in itertools.combinations("nsgiqd", n):
+            c.whole(*BASE[:2], *[(kind, *SAMPLE[kind]) for kind in kinds])
+    for common in (b"x" * 63, b"x" * 64, b"x" * 65, b"", b" ", b" Desk", b"Desk ", b"Night  Desk", b"Night_Desk", b"n@d", b"d\xe9sk", b"$", b"/=", b"'+,-./:=?()"):
+        c.whole(*BASE[:2], ("n", common))
+        c.whole(*BASE, ("n", common), ("n", b"Desk"))
+
+
 def classes(c):
     for b in range(256):
         c.byte(b)
@@ -218,7 +232,7 @@ def classes(c):
 
 def characters(c):
     for b in range(256):
-        c.whole(("p", b"a" + bytes([b]) + b"b"), ("u", bytes([b])), ("d", bytes([b]), b"v"), ("d", b"t", bytes([b])))
+        c.whole(("p", b"a" + bytes([b]) + b"b"), ("n", b"a" + bytes([b])), ("u", bytes([b])), ("d", bytes([b]), b"v"), ("d", b"t", bytes([b])))
     for s in (b"", b" ", b"a", b" a", b"a ", b"a b", b"a  b", b"a b c", b"a   b", b".", b"a.", b".a", b"a..b", b"a.b", b"a.b.c",
               b"-", b"-a", b"a-", b"a-b", b"a--b", b"x" * 63, b"x" * 64, b"x" * 62 + b"-", b"1", b"a_b", b"A9-z", b"a b.c", b"\xe9"):
         c.text(s)
@@ -245,7 +259,7 @@ def orders(c):
     for _ in range(300):
         additions = []
         for _ in range(rng.randrange(1, 14)):
-            kind = rng.choice("capouuuusgiqdddd")
+            kind = rng.choice("caponsgiquuuudddd")
             value = rng.choice([SAMPLE[kind][-1], b"x" * rng.randrange(0, 20), b"A b", b"A  b", b"Z" * 5, b"123", b"QR"])
             additions.append((kind, rng.choice([b"RFC-822", b"t", b"type-too-long"]), value) if kind == "d" else (kind, value))
         c.whole(*additions)
@@ -277,7 +291,7 @@ def sameness(c):
 
 def any_input(c):
     full = [(a, *SAMPLE[a]) for a in SAMPLE] + [("o", b"x" * 64)]
-    for tag, places, numbers in (("L", 8, (0, 1, 2, 5, 63, 64, 65, 255)), ("M", 4, (0, 1, 31, 32, 33, 255)),
+    for tag, places, numbers in (("L", len(SINGLE), (0, 1, 2, 5, 63, 64, 65, 255)), ("M", 4, (0, 1, 31, 32, 33, 255)),
                                  ("T", 4, (0, 1, 7, 8, 9, 255)), ("V", 4, (0, 1, 127, 128, 129, 255))):
         for place in range(places):
             for n in numbers:
@@ -307,7 +321,7 @@ def any_input(c):
 
 def main():
     c = Cases()
-    for part in (classes, bounds, characters, orders, sameness, any_input):
+    for part in (classes, bounds, names, characters, orders, sameness, any_input):
         part(c)
     for name, content in (("stdin", c.stdin), ("stdout", c.stdout)):
         with open("crates/record_cases/" + name, "wb") as f:

@@ -1,12 +1,14 @@
 #!/usr/bin/env python3
 """Writes the cases of crates/route_cases: the tables and inputs in its data/, its stdin, and what must come out (its stdout). They are the
-runs of tests/vectors/runs, whose answers are of an implementation of document 01 that was written apart from the library, and a second one
-confirmed them. Nothing of the library is run. Run it from the repository's root."""
+stored runs of tests/vectors/ (tests/stored.py). Nothing of the library is run. Run it from the repository's root."""
 import glob
 import os
-import sys
+
+import stored
 
 CRATE = "crates/route_cases/"
+# The room of the program for an input.
+INPUT_ROOM = 131072
 
 
 def read(path):
@@ -20,18 +22,17 @@ def write(path, content):
 
 
 def main():
-    folders = sorted(glob.glob("tests/vectors/runs/*/"))
-    if not folders:
-        sys.exit("no stored runs: run it from the repository's root")
+    folders = stored.runs()
     os.makedirs(CRATE + "data", exist_ok=True)
     for old in glob.glob(CRATE + "data/*"):
         os.remove(old)
     stdin, stdout = b"", b""
-    for folder in folders:
-        name = os.path.basename(os.path.dirname(folder))
-        write(CRATE + "data/" + name + ".tsv", read(folder + "table.tsv"))
-        write(CRATE + "data/" + name + ".txt", read(folder + "stdin"))
-        stdin += b"%s.tsv\n%s.txt\n" % (name.encode(), name.encode())
+    for i, folder in enumerate(folders):
+        given = read(folder + "stdin")
+        assert len(given) <= INPUT_ROOM, folder
+        write(CRATE + "data/%03d.tsv" % i, read(folder + "table.tsv"))
+        write(CRATE + "data/%03d.txt" % i, given)
+        stdin += b"%03d.tsv\n%03d.txt\n" % (i, i)
         stdout += read(folder + "expected")
     write(CRATE + "stdin", stdin)
     write(CRATE + "stdout", stdout)

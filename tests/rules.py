@@ -1,12 +1,18 @@
-"""Document 01's rules of record text, names, quoting and coding, written from the paper in plain Python for the tests.
+"""Document 01's rules of record text, names, quoting and coding, with request 12's common names, written from the papers in plain Python for
+the tests.
 
 Nothing here is taken from the library or its definitions: texts are matched by regular expressions, records are dictionaries."""
 import re
 
 PRINTABLE = b"ABCDEFGHIJKLMNOPQRSTUVWXYZabcdefghijklmnopqrstuvwxyz0123456789 '+,-./:=?()"
 ATOM = bytes(b for b in range(33, 127) if b not in b'()<>@,;:\\".[]')
-BOUND = {"ADMD": 16, "PRMD": 16, "O": 64, "OU": 32, "S": 40, "G": 16, "I": 5, "GQ": 3}
+BOUND = {"ADMD": 16, "PRMD": 16, "O": 64, "OU": 32, "S": 40, "G": 16, "I": 5, "GQ": 3, "CN": 64}
 LEVELS = ["C", "ADMD", "PRMD", "O"]
+PERSONAL = ["S", "G", "I", "GQ"]
+# The attributes that a record has once, and the keys that may not be repeated.
+SINGLES = LEVELS + ["CN"] + PERSONAL
+ONCE = SINGLES + ["PN"]
+LONGEST_ADDRESS = 2304
 
 _QUOTED = rb"(?:[^/=$]|\$[A-Za-z0-9 '+,\-./:=?()])*"
 _SEGMENT = rb"/(?:[Dd][Dd]\.(?P<type>" + _QUOTED + rb")|(?P<key>[A-Za-z0-9-]+))=(?P<value>" + _QUOTED + rb")"
@@ -103,8 +109,8 @@ def apply_segments(record, settled, segments):
     """What the segments name, put into a record whose first levels are settled."""
     if any(k in LEVELS[:settled] for k, _, _ in segments):
         raise Again
-    once = [k for k, _, _ in segments if k in ("PN", "C", "ADMD", "PRMD", "O", "S", "G", "I", "GQ")]
-    if len(set(once)) < len(once) or ("PN" in once and any(k in once for k in ("S", "G", "I", "GQ"))):
+    once = [k for k, _, _ in segments if k in ONCE]
+    if len(set(once)) < len(once) or ("PN" in once and any(k in once for k in PERSONAL)):
         raise Refused
     for key, kind, value in segments:
         if key == "RFC-822":
@@ -113,7 +119,7 @@ def apply_segments(record, settled, segments):
             put_dd(record, kind, value)
         elif key == "PN":
             put_name(record, read_name(value))
-        elif key in ("C", "ADMD", "PRMD", "O", "S", "G", "I", "GQ"):
+        elif key in SINGLES:
             put(record, key, value)
         elif key != "OU":
             raise Refused
@@ -137,7 +143,7 @@ def canonical(record):
         "C" in one
         and "ADMD" in one
         and ("S" in one or not any(k in one for k in ("G", "I", "GQ")))
-        and ("S" in one or record["DD"] != [])
+        and ("S" in one or "CN" in one or record["DD"] != [])
     )
 
 
@@ -150,16 +156,23 @@ def left(record, n):
 def record_text(record):
     one = record["one"]
     parts = [(b"RFC-822" if t.upper() == b"RFC-822" else b"DD." + quote(t), v) for t, v in record["DD"]]
-    parts += [(k.encode(), one[k]) for k in ("G", "I", "S", "GQ") if k in one]
+    parts += [(k.encode(), one[k]) for k in ("CN", "G", "I", "S", "GQ") if k in one]
     parts += [(b"OU", v) for v in reversed(record["OU"])]
     parts += [(k.encode(), one[k]) for k in ("O", "PRMD", "ADMD", "C") if k in one]
     return b"".join(b"/" + k + b"=" + quote(v) for k, v in parts) + b"/"
 
 
+def longest_record():
+    """The record with the longest text: every bound is full, and `$` is written before each character but C's."""
+    full = {key: b"=" * bound for key, bound in BOUND.items()}
+    units = [full.pop("OU")] * 4
+    return {"one": {**full, "C": b"123"}, "OU": units, "DD": [(b"=" * 8, b"=" * 128)] * 4}
+
+
 def short_form(record):
     """The short form of a record of which only a name is left, or None."""
     one = record["one"]
-    if record["OU"] or record["DD"] or "S" not in one or any(k in one for k in LEVELS + ["GQ"]):
+    if record["OU"] or record["DD"] or "S" not in one or any(k in one for k in LEVELS + ["GQ", "CN"]):
         return None
     given, initials, surname = one.get("G", b""), one.get("I", b""), one["S"]
     if not re.fullmatch(rb"[A-Za-z]*", initials) or (given and (len(given) < 2 or b"." in given)):

@@ -3,6 +3,7 @@
 tables there that are made for an edge (edge-*.tsv). It follows document 01, "The table text", by itself, over tests/rules.py, and runs
 nothing of the library. The other tables (NNN.tsv) were made by an implementation of document 01 that was written apart from this
 one. Run it from the repository's root."""
+import functools
 import glob
 import os
 import random
@@ -34,6 +35,7 @@ def row_of(line, tags, longest):
     return fields[0], domain, path
 
 
+@functools.lru_cache(maxsize=None)
 def load(text):
     """The number of the first bad line, or (gateway row, D rows, R rows)."""
     if len(text) > 65536:

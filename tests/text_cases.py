@@ -7,6 +7,7 @@ import rules
 
 SETTLED = [("C", b"XY"), ("ADMD", b"P"), ("PRMD", b"TOW"), ("O", b"brack")]
 UNITS = [b"u1", b"u2", b"u3", b"u4"]
+LONGEST_TEXT = 1867
 
 # The worked examples of documents 000 (RFC 1327), 001 (RFC 987) and 002 (RFC 2156), with their sections.
 NAMES = [
@@ -30,12 +31,12 @@ TEXTS = [
     b"/S=Eppenberger/OU=verw/O=switch/PRMD=SWITCH/ADMD=ARCOM/C=CH/",  # 002 5.3.4.2
     b"/RFC-822=H.Hildegard(a)bbn.com/OU=cs/O=ucl/PRMD=uk.ac/ADMD=gold 400/C=gb/",  # 002 5.3.8.4
     b"/I=j/S=nosuchuser/OU=dle/O=cambridge/PRMD=DGC/ADMD=GOLD 400/C=GB/",  # 002 5.3.8.4
-    b"/CN=yen*{165}/",  # 002 4.1.1: Teletex and common names are not in scope
+    b"/CN=yen*{165}/",  # 002 4.1.1: Teletex is not in scope
     b"/O=/",  # 002 appendix B: an empty value
 ]
 # Open points, each side.
 POINTS = [
-    b"/S=Lee", b"/S=Lee//", b"/=x/", b"/S=a=b/", b"/FOO.x=1/", b"/DD=x/", b"/A=x/", b"/P=x/", b"/OU1=x/", b"/CN=x/", b"/X121=1/",
+    b"/S=Lee", b"/S=Lee//", b"/=x/", b"/S=a=b/", b"/FOO.x=1/", b"/DD=x/", b"/A=x/", b"/P=x/", b"/OU1=x/", b"/X121=1/",
     b"/S=a$/b/", b"/S=a$=b/", b"/S=a$$b/", b"/S=a$/", b"/S=a$", b"/S=$a$b/", b"/$S=a/", b"/DD$.t=v/", b"/DD.t.u=v/", b"/DD.=v/",
     b"/DD.t=/", b"/DD.$/t$=u=v/", b"/PRMD=/C=XY/ADMD=P/S=Lee/", b"/S=/C=XY/ADMD=P/", b"/ADMD=/C=XY/S=Lee/", b"/OU=/S=Lee/C=XY/",
     b"/S=Lee/S=Lee/", b"/C=XY/C=XY/S=Lee/", b"/O=a/O=b/S=Lee/C=XY/", b"/PN=a/PN=b/", b"/PN=Lee/S=Lee/", b"/PN=Lee/G=Ann/",
@@ -51,6 +52,18 @@ POINTS = [
     b"/PN=" + b"g" * 16 + b".A.B.C.D.E." + b"s" * 40 + b"/C=XY/", b"/PN=" + b"g" * 17 + b".Lee/C=XY/",
     b"/RFC-822=" + b"v" * 128 + b"/C=XY/", b"/RFC-822=" + b"v" * 129 + b"/C=XY/",
     b"/DD.12345678=" + b"$=" * 128 + b"/DD.$/$/$/$/$/$/$/$/=x/C=XY/",
+]
+# Common names: alone, beside each other key, twice, empty, against their rule, and as long as they may be.
+COMMON = [
+    b"/CN=x/", b"/cn=Night Desk/", b"/S=Lee/CN=Desk/", b"/CN=Desk/G=Ann/S=Lee/", b"/Cn=Night Desk/C=XY/",
+    b"/CN=Night Desk/S=Lee/C=XY/", b"/S=Lee/G=Ann/I=M/GQ=II/CN=Desk/C=XY/", b"/CN=a/G=Ann/C=XY/",
+    b"/CN=a/I=M/C=XY/", b"/CN=a/GQ=II/C=XY/", b"/CN=a/DD.t=v/RFC-822=x/C=XY/", b"/RFC-822=x/CN=a/C=XY/", b"/CN=a/OU=u/OU=v/O=o/PRMD=p/ADMD=q/C=XY/",
+    b"/CN=a/CN=a/C=XY/", b"/CN=a/cn=b/S=Lee/C=XY/", b"/CN=/CN=/C=XY/", b"/CN=/C=XY/", b"/CN=/S=Lee/C=XY/", b"/CN=/", b"/CN=a/PN=Lee/C=XY/",
+    b"/PN=Ann.M.Lee/CN=a/C=XY/", b"/PN=Ann./CN=a/C=XY/", b"/PN=Lee/CN=a/S=Lee/C=XY/", b"/CN=a/PN=Lee/PN=Lee/C=XY/", b"/CN=$/S$=a$//C=XY/",
+    b"/CN=$N$i$g$h$t/C=XY/", b"/CN=a$$/C=XY/", b"/CN=a$/", b"/CN=a=b/C=XY/", b"/CN=a", b"/CN.x=a/C=XY/", b"/CN=Ann.Lee/C=XY/", b"/CN= /C=XY/",
+    b"/CN= a/C=XY/", b"/CN=a /C=XY/", b"/CN=a  b/C=XY/", b"/CN=a b c/C=XY/", b"/CN=a_b/C=XY/", b"/CN=d\xe9sk/C=XY/", b"/CN=a@b/C=XY/",
+    b"/CN=" + b"x" * 63 + b"/C=XY/", b"/CN=" + b"x" * 64 + b"/C=XY/", b"/CN=" + b"x" * 65 + b"/C=XY/", b"/CN=" + b"$/" * 64 + b"/C=XY/",
+    b"/CN=" + b"$/" * 65 + b"/C=XY/", b"/C=XY/CN=a/DD.t=v/S=Lee/", b"/CN=a/X=b/C=XY/", b"/COMMON=a/C=XY/",
 ]
 LOCALS = [
     b"a.b", b"ab.c", b".a", b"a..b", b"12.3.", b"1.b", b"A.B.", b"ab.", b"Ann.Lee", b"Ann./b", b"Lee", b"", b".", b"..", b"a.", b"ab",
@@ -90,7 +103,7 @@ def read(command, digit, text):
 
 def random_text(rng):
     """Segments from small sets, now and then damaged."""
-    keys = ["C", "ADMD", "PRMD", "O", "OU", "OU", "S", "G", "I", "GQ", "PN", "DD.t", "dd.RFC-822", "RFC-822", "s", "ou", "X"]
+    keys = ["C", "ADMD", "PRMD", "O", "OU", "OU", "S", "G", "I", "GQ", "CN", "PN", "DD.t", "dd.RFC-822", "RFC-822", "s", "ou", "cn", "X"]
     values = ["XY", "P", "a", "ab", "A.b", "b.c", "M", "MT", "ab.c", "$/", "a$=b", "x y", "", "12", "Lee", "Ann.Lee", "a  b", "/b"]
     text = "".join("/%s=%s" % (rng.choice(keys), rng.choice(values)) for _ in range(rng.randrange(1, 7))) + "/"
     if "/C=" not in text and rng.random() < 0.7:
@@ -103,7 +116,9 @@ def random_text(rng):
 
 def main():
     cases = [("N", 0, t) for t in NAMES + LOCALS]
-    for t in TEXTS + POINTS + LOCALS + NAMES:
+    longest = rules.record_text(rules.longest_record())
+    assert len(longest) == LONGEST_TEXT
+    for t in TEXTS + POINTS + COMMON + [longest] + LOCALS + NAMES:
         if b"\n" not in t:
             cases += [(c, d, t) for c in "TL" for d in (0, 2, 3, 4, 6, 8, 9)]
     rng = random.Random(2)

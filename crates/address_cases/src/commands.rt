@@ -13,6 +13,7 @@ use mailaddr::code::put_coded;
 use mailaddr::domain::count_parts;
 use mailaddr::domain::is_domain;
 use mailaddr::domain::part_start;
+use mailaddr::shape::LONGEST_ADDRESS;
 use mailaddr::shape::Parted;
 use mailaddr::shape::ShapeRead;
 use mailaddr::shape::is_readable;
@@ -27,8 +28,8 @@ ghost use Rattle.address_cases.specs.Limits.{longestCase};
 // Room for any text here: the longest of the input, every character of it escaped.
 const ROOM: usize = 8192;
 
-// The longest text that is looked at; the cases have none longer.
-const LONGEST_CASE: usize = 2100;
+// The longest text that is looked at, one byte longer than an address; the cases have none longer.
+const LONGEST_CASE: usize = LONGEST_ADDRESS + 1;
 
 // A number, and a space.
 fn say_count(n: usize) {

@@ -2,15 +2,13 @@
 use cases::parts::front;
 use mapping::answers::AddressAnswer;
 use mapping::answers::RecordAnswer;
+use mapping_to_address::to_address::ADDRESS_ROOM;
 use mapping_to_address::to_address::record_to_address;
 use mapping_to_record::to_record::address_to_record;
 use oraddr::bounds::S;
 use oraddr::record::Record;
 use oraddr_canonical::canonical::is_canonical;
 use oraddr_same::same::same_record;
-
-// Room for any address.
-const ROOM: usize = 2560;
 
 // Whether an address is mapped back to the record.
 fn is_back(table: &[u8], s: &[u8], rec: Record) -> bool {
@@ -28,7 +26,7 @@ fn is_back(table: &[u8], s: &[u8], rec: Record) -> bool {
 
 // Whether a record comes back under a table text.
 fn comes_back(table: &[u8], rec: Record) -> bool {
-    let mut out = [0u8; ROOM];
+    let mut out = [0u8; ADDRESS_ROOM];
     let sent = record_to_address(table, rec, &mut out);
     let answer = sent.answer;
     let n = sent.size;

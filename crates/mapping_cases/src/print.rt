@@ -11,6 +11,7 @@ use mapping::answers::record_number;
 use oraddr::record::Record;
 use oraddr_canonical::canonical::is_canonical;
 use oraddr_same::same::same_record;
+use ortext_write::write::LONGEST_TEXT;
 use ortext_write::write::write_text;
 ghost use mathlib.Core.Path.{_≡_};
 ghost use mathlib.Core.Bool.{true};
@@ -18,14 +19,11 @@ ghost use Prim.Native.Nat.{_≤_};
 ghost use lib.ListN.{length};
 ghost use Rattle.oraddr.specs.Canonical.{canonicalRecord};
 
-// Room for the record text of a canonical record.
-const ROOM: usize = 2304;
-
 // The record text of a canonical record.
 fn print_text(rec: Record)
     requires { ⌜ canonicalRecord rec ≡ true ⌝ }
 {
-    let mut out = [0u8; ROOM];
+    let mut out = [0u8; LONGEST_TEXT];
     let n = write_text(&mut out, 0, rec, 0);
     say(&out[..n]);
 }

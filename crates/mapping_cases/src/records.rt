@@ -1,5 +1,5 @@
 // Records as any caller may fill them, whatever their lengths and counts say. A part of a record is:
-//   its place in four digits: a value's number, 8 to 11 for a unit, 12 to 15 for a DD
+//   its place in four digits: a value's number, 9 to 12 for a unit, 13 to 16 for a DD
 //   the count of units, or of DDs, that it leaves, in four digits
 //   its length in four digits, and what stands at the front of its room; of a DD the type so, its room full, and then the value
 // The number 9999 stands for the largest length or count there is.

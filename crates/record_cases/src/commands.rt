@@ -23,6 +23,7 @@ fn attribute(tag: u8) -> Attribute {
         b'a' => Attribute::Admd,
         b'p' => Attribute::Prmd,
         b'o' => Attribute::O,
+        b'n' => Attribute::Cn,
         b's' => Attribute::S,
         b'g' => Attribute::G,
         b'i' => Attribute::I,

@@ -7,11 +7,11 @@
 //   r    make a record, and then another; print whether this one is canonical, whether it is the same as the first, and what it holds
 // Of `r` the bytes are how many make the first record, in four digits, and commands. A command is the length of what follows, a letter, a
 // number, both numbers of four digits, and bytes:
-//   c a p o s g i q    add the bytes as C, ADMD, PRMD, O, S, G, I or GQ; prints the number
-//   u, d               add a unit, or a DD whose type is as many bytes as the number says, and its value the others; prints the number
-//   L                  make the length of value k, which is the byte, the number, as a caller may
-//   M                  the same of unit k, and where k is 4 of the count of units
-//   T                  the same of DD type k, from 4 on of the DD values, and where k is 8 of the count of DDs
+//   c a p o n s g i q    add the bytes as C, ADMD, PRMD, O, CN, S, G, I or GQ; prints the number
+//   u, d                 add a unit, or a DD whose type is as many bytes as the number says, and its value the others; prints the number
+//   L                    make the length of value k, which is the byte, the number, as a caller may
+//   M                    the same of unit k, and where k is 4 of the count of units
+//   T                    the same of DD type k, from 4 on of the DD values, and where k is 8 of the count of DDs
 // The number 9999 stands for the largest length or count there is.
 mod commands;
 mod print;

@@ -1,6 +1,7 @@
 // What the program prints of a record.
 use cases::print::say;
 use cases::print::say_number;
+use oraddr::bounds::LEVELS;
 use oraddr::bounds::MOST;
 use oraddr::bounds::SINGLES;
 use oraddr::record::Dds;
@@ -76,11 +77,17 @@ fn print_dd(d: DomainDefined) {
     print_dd_value(d.value);
 }
 
-// The values and the levels, of which there are as many.
 fn print_values(rec: Record) {
     let mut k = 0;
     while k < SINGLES {
         print_value(rec.single(k));
+        k += 1;
+    }
+}
+
+fn print_levels(rec: Record) {
+    let mut k = 0;
+    while k < LEVELS {
         print_value(rec.level(k));
         k += 1;
     }
@@ -110,10 +117,11 @@ fn print_flags(rec: Record, other: Record) {
     space();
 }
 
-// The flags, the values with the levels, and the lists.
+// The flags, the values, the levels, and the lists.
 pub(crate) fn print_record(rec: Record, other: Record) {
     print_flags(rec, other);
     print_values(rec);
+    print_levels(rec);
     print_counts(rec.units, rec.dds);
     print_lists(rec.units, rec.dds);
     new_line();

@@ -13,7 +13,7 @@ use feed::feed;
 // Standard input, at most; an input, at most; a table with one byte too many.
 const ROOM: usize = 65536;
 
-const INPUT_ROOM: usize = 65536;
+const INPUT_ROOM: usize = 131072;
 
 const TABLE_ROOM: usize = 65537;
 

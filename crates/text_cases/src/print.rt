@@ -8,6 +8,7 @@ use ortext_name::name::put_initials;
 use ortext_name::name::read_name;
 use ortext_read::read::Answer;
 use ortext_read::read::Reading;
+use ortext_write::write::LONGEST_TEXT;
 use ortext_write::write::write_local;
 use ortext_write::write::write_text;
 ghost use mathlib.Core.Path.{_≡_};
@@ -17,14 +18,11 @@ ghost use lib.ListN.{length};
 ghost use Rattle.oraddr.specs.Canonical.{canonicalRecord};
 ghost use Rattle.ortext_name.specs.Places.{Placed};
 
-// Room for the longest text of a canonical record.
-const ROOM: usize = 2304;
-
 // The record text of a canonical record.
 fn print_text(rec: Record)
     requires { ⌜ canonicalRecord rec ≡ true ⌝ }
 {
-    let mut out = [0u8; ROOM];
+    let mut out = [0u8; LONGEST_TEXT];
     let n = write_text(&mut out, 0, rec, 0);
     say(&out[..n]);
 }
@@ -34,7 +32,7 @@ fn print_local(rec: Record, from: usize)
     requires { ⌜ canonicalRecord rec ≡ true ⌝ }
 {
     say(b"\t");
-    let mut out = [0u8; ROOM];
+    let mut out = [0u8; LONGEST_TEXT];
     let n = write_local(&mut out, rec, from);
     say(&out[..n]);
 }
@@ -74,10 +72,10 @@ pub(crate) fn print_reading(r: Reading) {
 fn print_initials(s: &[u8], from: usize, n: usize)
     requires { ⌜ from + 2 * n ≤ length (now s) ⌝ }
 {
-    if ROOM < n {
+    if LONGEST_TEXT < n {
         return;
     }
-    let mut letters = [0u8; ROOM];
+    let mut letters = [0u8; LONGEST_TEXT];
     put_initials(&mut letters, s, from, n);
     say(&letters[..n]);
 }

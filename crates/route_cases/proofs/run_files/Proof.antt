@@ -12,7 +12,7 @@ slice-aggregate-read-file : tie.Need-slice-aggregate-read-file
 slice-aggregate-read-file c = sym (length-replicate {A = ℕ} 65537 0)
 
 slice-aggregate-read-file-2 : tie.Need-slice-aggregate-read-file-2
-slice-aggregate-read-file-2 c = sym (length-replicate {A = ℕ} 65536 0)
+slice-aggregate-read-file-2 c = sym (length-replicate {A = ℕ} 131072 0)
 
 slice-aggregate-feed : tie.Need-slice-aggregate-feed
 slice-aggregate-feed c =
