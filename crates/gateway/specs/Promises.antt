@@ -383,14 +383,14 @@ pub record Mailboxes : Type 0 where
 -- ---- the limits, by number: a greater one where a promise asks for it (`answerRoom`, `lengthLimit`) would promise less
 
 pub record Limits : Type 0 where
-  pub address : longestAddress ≡ 2048
+  pub address : longestAddress ≡ 2304
   pub coded-form : longestCoded ≡ 128
   pub line : (longestLine ≡ 4096) × (longestRouted ≡ 4096)
   pub table : (longestTable ≡ 65536) × (mostRows ≡ 512) × (longestGatewayDomain ≡ 253) × (longestRowDomain ≡ 40)
   pub entries : mostEntries ≡ 514
-  pub attributes : bounds ≡ 3 ∷ 16 ∷ 16 ∷ 64 ∷ 40 ∷ 16 ∷ 5 ∷ 3 ∷ 32 ∷ 8 ∷ 128 ∷ 2 ∷ []
-  pub counts : (singleCount ≡ 8) × (levelCount ≡ 8) × (most ≡ 4)
-  pub answer : answerRoom ≡ 2563
+  pub attributes : bounds ≡ 3 ∷ 16 ∷ 16 ∷ 64 ∷ 64 ∷ 40 ∷ 16 ∷ 5 ∷ 3 ∷ 32 ∷ 8 ∷ 128 ∷ 2 ∷ []
+  pub counts : (singleCount ≡ 9) × (levelCount ≡ 8) × (most ≡ 4)
+  pub answer : answerRoom ≡ 2126
   pub packing : (numberLimit ≡ 16) × (lengthLimit ≡ 1152921504606846976) × (placeLimit ≡ 65536)
 
 -- ---- all of it

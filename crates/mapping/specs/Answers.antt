@@ -23,7 +23,6 @@ use Rattle.table.specs.Table.{Table, Token}
 use Rattle.table.specs.Rows.{RowInside, between, rowAt, rowsAt}
 use Rattle.table.specs.declared.line as line
 use Rattle.table.specs.declared.load as load
-use Rattle.table_lookup.specs.Looked.{levelsRoom}
 use Rattle.mapping.specs.Carried.{resultOf}
 use Rattle.mapping.specs.Results.{AddressResult, RecordResult}
 use Rattle.mapping.specs.ToAddress.{Plan, extended, plan, planUnder}
@@ -108,12 +107,13 @@ isGood (read r) = canonicalRecord r
 abbrev pub recordParted : Table → List ℕ → Parted → RecordResult
 recordParted t s p = recordBy t s (shaped (addressAt s p))
 
--- Room for any local part; for one in quotes, its `@`, the levels in front of a domain, each with a dot, and the domain: any address.
+-- Room for any local part, and for any address: a local part in quotes, its `@` and the longest domain. A level that goes in front of a row's domain
+-- takes no more there than it would in the local part.
 abbrev pub localRoom : ℕ
 localRoom = longestText
 
 abbrev pub addressRoom : ℕ
-addressRoom = localRoom + 3 + levelsRoom + levelCount + longestGatewayDomain
+addressRoom = localRoom + 3 + longestGatewayDomain
 
 -- A text at the front of a buffer, which behind it is as before.
 pub record Fronted (o : Option (List ℕ)) (old : List ℕ) (n : ℕ) (new : List ℕ) : Type 0 where

@@ -49,10 +49,11 @@ ghost use Rattle.mapping.specs.Flat.{Flat, fronts};
 ghost use Rattle.mapping.specs.ToAddress.{addressOf, recordToAddress, toAddress, toAddressBy};
 ghost use Rattle.oraddr.specs.Bounds.{levelCount};
 
-// Room for any local part; for one in quotes, its `@`, the levels in front of a domain, each with a dot, and the domain: any address.
+// Room for any local part, and for any address: a local part in quotes, its `@` and the longest domain. A level that goes in front of a row's
+// domain takes no more there than it would in the local part.
 const LOCAL_ROOM: usize = LONGEST_TEXT;
 
-pub const ADDRESS_ROOM: usize = LOCAL_ROOM + 3 + LEVELS_ROOM + LEVELS + LONGEST_GATEWAY_DOMAIN;
+pub const ADDRESS_ROOM: usize = LOCAL_ROOM + 3 + LONGEST_GATEWAY_DOMAIN;
 
 // The route under a row that was found: its path is matched level by level, which tells how many levels it has.
 fn route_under(text: &[u8], row: Row, flat: &[u8], ends: &[usize]) -> Route

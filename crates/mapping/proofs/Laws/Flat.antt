@@ -1,12 +1,11 @@
--- Laws of a record's levels in a buffer: the levels by their places, one more written behind the others, how many and how long they are,
+-- Laws of a record's levels in a buffer: the levels by their places, one more written behind the others, how many they are, that each is short,
 -- and levels put in front of a domain.
 -- Assumes nothing.
 use mathlib.Core.Path.{_≡_, refl, sym, ap, ap₂, _∙_}
-use mathlib.Core.Logic.{⊎-elim}
 use mathlib.Core.Bool.{Bool, true}
 use mathlib.Core.List.{List, [], _∷_, _++_, append-assoc, append-nil, map}
 use Prim.Native.Nat.{ℕ, zero, suc, _+_, _-_, _≤_, _<_}
-use native.Mathlib.Nat.{add-zero, eq-or-lt-of-le, le-of-suc-le-suc, not-suc-le-zero, zero-add}
+use native.Mathlib.Nat.{add-zero, le-of-suc-le-suc, not-suc-le-zero, zero-add}
 use native.Mathlib.Numerals.{add-one}
 use native.Mathlib.Omega.{arith}
 use borrow.Author.Count.{below-more}
@@ -29,8 +28,8 @@ use Rattle.oraddr.specs.declared.record.Record.{Record}
 use Rattle.mailaddr.specs.Domain.{inFront}
 use Rattle.table.specs.Table.{Token}
 use Rattle.table.specs.Rows.{between}
-use Rattle.table_lookup.specs.Looked.{Ended, levelTokens, levelsRoom, tokensFrom}
-use Rattle.table.proofs.Laws.Fields.{between-length, region}
+use Rattle.table_lookup.specs.Looked.{levelTokens, levelsRoom, tokensFrom}
+use Rattle.table.proofs.Laws.Fields.{region}
 use Rattle.mapping.specs.Flat.{Flat, fronts}
 use Rattle.mapping.specs.ToAddress.{extended}
 
@@ -211,25 +210,3 @@ pub extended-fronts : (d : List ℕ) (x : List Token) → extended d x ≡ front
 unfolding extended fronts inFront
 extended-fronts d [] = refl
 extended-fronts d (p ∷ ps) = extended-fronts (p ++ 46 ∷ d) ps ∙ simp append-assoc
-
--- how long they are
-rises : {s ends : List ℕ} {m : ℕ} → Ended s ends m → (j k : ℕ) → j ≤ k → k ≤ m → getD ends j 0 ≤ getD ends k 0
-rises h j zero l m = let e : j ≡ 0 = omega arith in rw e (omega arith)
-rises h j (suc k) l m =
-    ⊎-elim
-    (λ e. rw e (omega arith))
-    (λ (lt : j < suc k). rw (← add-one k) (omega (arith, rises h j k (le-of-suc-le-suc lt) (omega arith), h .ordered k (omega arith))))
-    (eq-or-lt-of-le l)
-
-fronts-long : {s ends : List ℕ} {m : ℕ} → Ended s ends m → (k n : ℕ) → k + n ≤ m → getD ends k 0 + length (fronts (tokensFrom s ends k n)) ≡ getD ends (k + n) 0 + n
-unfolding fronts tokensFrom
-fronts-long h k zero l = rw (add-zero k) (omega arith)
-fronts-long {s} {ends} h k (suc n) l =
-    let e : suc k + n ≡ k + suc n = omega arith in
-    let p : Token = between s (getD ends k 0) (getD ends (suc k) 0) in
-    let b : length p ≡ getD ends (suc k) 0 - getD ends k 0 = rw (← add-one k) (between-length s (getD ends k 0) (getD ends (k + 1) 0) (h .ordered k (omega arith)) (h .inside k (omega arith))) in
-    omega (arith, rw e at (fronts-long h (suc k) n (omega arith)), length-append (fronts (tokensFrom s ends (suc k) n)) (p ++ (46 ∷ [])), length-append p (46 ∷ []), rw add-one at (h .ordered k (omega arith)))
-
--- the levels in front of a domain take no more than all eight, with a dot for each
-pub length-fronts : {ls : List Token} {flat ends : List ℕ} → Flat ls flat ends → (k n : ℕ) → k + n ≤ 8 → length (fronts (take n (drop k (levelTokens flat ends)))) ≤ 520
-length-fronts {ls} {flat} {ends} f k n h = rw (tokens-some flat ends k n h) (omega (arith, fronts-long (f .ended) k n h, rises (f .ended) (k + n) 8 h (omega arith), f .most))

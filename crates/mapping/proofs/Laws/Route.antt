@@ -14,13 +14,14 @@ use Rattle.chars.specs.Write.{Wrote}
 use Rattle.chars.proofs.Laws.Lists.{by-test}
 use Rattle.chars.proofs.Laws.Write.{wrote-length, wrote-taken}
 use Rattle.oraddr.specs.Attributes.{Attributes, levels}
+use Rattle.oraddr.specs.Bounds.{levelCount}
 use Rattle.oraddr.specs.Canonical.{canonicalRecord}
 use Rattle.oraddr.specs.View.{view}
 use Rattle.oraddr.specs.declared.record.Record.{Record}
 use Rattle.oraddr.proofs.Laws.Canonical.{canonical-view}
 use Rattle.ortext_segments.specs.Keys.{keys}
 use Rattle.ortext_write.specs.Write.{localText, longestText, remaining}
-use Rattle.ortext_write.proofs.Laws.Write.{local-bound, text-class}
+use Rattle.ortext_write.proofs.Laws.Write.{local-bound, local-told, text-class}
 use Rattle.mailaddr.specs.Shape.{addressText, quotedLocal}
 use Rattle.mailaddr.proofs.Laws.Shape.{length-quoted-quotable, quoted-atoms}
 use Rattle.table.specs.Table.{Row, Table, Token}
@@ -40,7 +41,8 @@ use Rattle.mapping.specs.Results.{malformedAddress, placed, refusedAddre
 use Rattle.mapping.specs.ToAddress.{Plan, addressOf, carriedAddress, extended, isCarrier, isCarrierAt, placedIn, plan, planBy, planUnder, planned, toAddress, toAddressBy}
 use Rattle.mapping.specs.declared.answers.AddressAnswer.the-variants.{Malformed, NoAddress, NotCanonical}
 use Rattle.mapping.specs.declared.answers.Route.{Route}
-use Rattle.mapping.proofs.Laws.Flat.{extended-fronts, length-fronts}
+use Rattle.mapping.proofs.Laws.Flat.{extended-fronts}
+use Rattle.mapping.proofs.Laws.Fronts.{some-room}
 
 -- ---- the route
 
@@ -92,21 +94,38 @@ length-local r h n =
     (λ e. rw (quoted-atoms u e) (omega arith))
     (λ e. omega (arith, length-quoted-quotable u (text-class (view r) (canonical-view r h) n) e))
 
+-- the levels in a buffer are eight
+pub flat-eight : {ls : List Token} {flat ends : List ℕ} → Flat ls flat ends → length ls ≡ levelCount
+flat-eight {ls} {flat} {ends} f = sym (ap length (f .holds)) ∙ length-tokens flat ends
+
 pub length-row : (s : List ℕ) (row : line.Row.Row) → RowInside s row → length (between s (row .domain) (row .«domain_end»)) ≤ 253
 length-row s row h = omega (arith, between-length s (row .domain) (row .«domain_end») (h .domain) (h .within-domain), h .short)
 
+-- the local part and the levels that the domain tells
+pub length-told : (r : Record) → canonicalRecord r ≡ true → length (levels (view r)) ≡ levelCount → (own more : ℕ) → own + more ≤ levelCount
+    → length (quotedLocal (localText keys (remaining (own + more) (view r)))) + length (fronts (take more (drop own (levels (view r))))) ≤ longestText + 2
+unfolding isQuotable
+length-told r h l own more few =
+    let u : List ℕ = localText keys (remaining (own + more) (view r)) in
+    let c = canonical-view r h in
+    let f = some-room (view r) c l own more few in
+    let t = local-told (view r) c (own + more) few in
+    by-test (isAtoms u)
+    (λ e. rw (quoted-atoms u e) (omega (arith, f, t)))
+    (λ e. omega (arith, f, t, length-quoted-quotable u (text-class (view r) c (own + more)) e))
+
 -- the whole of it: less than the room for any address
 pub length-routed : (r : Record) (s flat ends : List ℕ) (route : Route) → canonicalRecord r ≡ true → Flat (levels (view r)) flat ends → RowInside s (route .row)
-    → route .own + route .more ≤ 8
+    → route .own + route .more ≤ levelCount
     → length (routedText s route (view r)) ≤ addressRoom
 unfolding addressText
 length-routed r s flat ends route h f i few =
     let u : List ℕ = localText keys (remaining (route .own + route .more) (view r)) in
     let d : List ℕ = between s (route .row .domain) (route .row .«domain_end») in
     let x : List Token = take (route .more) (drop (route .own) (levels (view r))) in
-    let g : length (fronts x) ≤ 520 = rw (f .holds) at (length-fronts f (route .own) (route .more) few) in
+    let g = length-told r h (flat-eight f) (route .own) (route .more) few in
     rw (extended-fronts d x)
-    (omega (arith, length-append (quotedLocal u) (64 ∷ fronts x ++ d), length-append (fronts x) d, length-local r h (route .own + route .more), length-row s (route .row) i))
+    (omega (arith, length-append (quotedLocal u) (64 ∷ fronts x ++ d), length-append (fronts x) d, g, length-row s (route .row) i))
 
 -- ---- the address that was written
 

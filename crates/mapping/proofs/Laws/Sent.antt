@@ -6,11 +6,11 @@ use mathlib.Core.Logic.{⊎-elim}
 use mathlib.Core.Bool.{Bool, true, false, _&&_, _||_, not, cond, and-false}
 use mathlib.Core.List.{List, [], _∷_, _++_, List·Memᴰ, List·Memᴰ·cases-cons, List·Memᴰ·not-nil, reverseAux}
 use mathlib.Core.Option.{Option, none, some}
-use Prim.Native.Nat.{ℕ, zero, suc, _+_, _*_, _≤_, _<_, zero-le}
+use Prim.Native.Nat.{ℕ, _+_, _≤_, _<_, zero-le}
 use native.Mathlib.Omega.{arith}
-use borrow.Author.Tests.{eqb-false, eqb-true, le-leb, le-ltb, leb-true, ltb-false, ltb-true, ne-eqb, not-true}
+use borrow.Author.Tests.{eqb-false, eqb-true, le-ltb, leb-true, ltb-false, ltb-true, ne-eqb, not-true}
 use lib.Dec.{eqb, leb, lit<, ltb}
-use lib.ListN.{length, take, drop, getD, replicate, length-append}
+use lib.ListN.{length, drop, getD, length-append}
 use Rattle.chars.specs.Lists.{all, bytes, first, last, member, nonEmpty}
 use Rattle.chars.specs.Class.{between, isDigit, isLetter, isPrintable, isQuotable}
 use Rattle.chars.specs.Domain.{isDomainPart}
@@ -19,16 +19,15 @@ use Rattle.chars.specs.Spaces.{adjacent, isText, wellSpaced}
 use Rattle.chars.proofs.Laws.Case.{equal-path}
 use Rattle.chars.proofs.Laws.Class.{on-range, printable-below}
 use Rattle.chars.proofs.Laws.Domain.{domain-part-label}
-use Rattle.chars.proofs.Laws.Lists.{all-append, all-at, all-weaken, and-both, and-left, and-right, and-three, by-test, last-append, or-cases, true-not-false}
+use Rattle.chars.proofs.Laws.Lists.{all-at, all-weaken, and-both, and-left, and-right, and-three, by-test, last-append, or-cases, true-not-false}
 use Rattle.chars.proofs.Laws.Parts.{split-at-sep}
 use Rattle.chars.proofs.Laws.Seq.{no-length, some-append, some-test}
 use Rattle.oraddr.specs.Attributes.{Attributes, Dd, levels, singleOf}
-use Rattle.oraddr.specs.Bounds.{ADMD, C, C-LETTERS, DD-TYPE, DD-VALUE, G, GQ, I, OU, S, boundOf, isCountry, isSpace, isValue, most, rule, singleCount}
-use Rattle.oraddr.specs.Canonical.{allKept, canonical, canonicalRecord, isDd, isUnit, kept}
+use Rattle.oraddr.specs.Bounds.{ADMD, C, C-LETTERS, DD-TYPE, DD-VALUE, G, GQ, I, OU, S, boundOf, isCountry, isSpace, isValue, rule, levelCount, singleCount}
+use Rattle.oraddr.specs.Canonical.{canonical, canonicalRecord, isDd, isUnit, kept}
 use Rattle.oraddr.specs.View.{view}
 use Rattle.oraddr.specs.declared.record.Record.{Record}
-use Rattle.oraddr.proofs.Laws.Canonical.{canonical-parts, canonical-view}
-use Rattle.oraddr.proofs.Laws.View.{value-length}
+use Rattle.oraddr.proofs.Laws.Canonical.{canonical-view}
 use Rattle.ortext_read.specs.Apply.{Reading}
 use Rattle.ortext_segments.specs.Keys.{DD-KEY, OU-KEY, PN-KEY, SHORT-KEYS, keyCount, keys}
 use Rattle.ortext_name.specs.Name.{dotted, givenText, isShort, nameText}
@@ -36,7 +35,7 @@ use Rattle.ortext_write.specs.Write.{ddSegment, hasShort, joined, keyValue, loc
 use Rattle.ortext_segments.proofs.Laws.Keys.{dot, key-clear}
 use Rattle.ortext_write.proofs.Laws.Left.{flat}
 use Rattle.ortext_name.proofs.Laws.Name.{name-short, short-some, surname-some}
-use Rattle.ortext_write.proofs.Laws.Write.{Ruled, dd-long, dd-short, ddText, joined-in, joined-map, kept-within, keyText, local-long, local-short, plain-text, ruled, single-none, single-some, text-class, unitText}
+use Rattle.ortext_write.proofs.Laws.Write.{Ruled, dd-long, dd-short, ddText, joined-in, joined-map, keyText, local-long, local-short, plain-text, ruled, single-none, single-some, text-class, toldMost, unitText}
 use Rattle.mailaddr.specs.Answers.{fromShape, shaped, shaping}
 use Rattle.mailaddr.specs.Domain.{inFront, isDomain}
 use Rattle.mailaddr.specs.Shape as shape
@@ -56,6 +55,7 @@ use Rattle.mapping.specs.ToAddress.{Plan, extended, plan, planBy, planUn
 use Rattle.mapping.specs.ToRecord.{recordBy, recordIn, toRecord}
 use Rattle.mapping.proofs.Laws.Carried.{carried-is}
 use Rattle.mapping.proofs.Laws.Flat.{extended-fronts}
+use Rattle.mapping.proofs.Laws.Fronts.{fronts-drop, fronts-extension, levels-room}
 use Rattle.mapping.proofs.Laws.Route.{length-local}
 
 -- ---- spaces
@@ -310,66 +310,7 @@ row-domain n r h =
     let p = and-three (leb (length (r .domain)) n) (isDomain (r .domain)) (isPath (r .path)) h in
     (leb-true (length (r .domain)) n (p .0), p .1)
 
--- ---- how long it is
-
-fronts-append : (x y : List Token) → length (fronts (x ++ y)) ≡ length (fronts x) + length (fronts y)
-unfolding fronts
-fronts-append [] y = omega arith
-fronts-append (p ∷ x) y =
-    omega (arith, length-append (fronts (x ++ y)) (p ++ (46 ∷ [])), length-append (fronts x) (p ++ (46 ∷ [])), fronts-append x y)
-
-fronts-drop : (n : ℕ) (x : List Token) → length (fronts (drop n x)) ≤ length (fronts x)
-unfolding fronts
-fronts-drop zero x = omega arith
-fronts-drop (suc n) [] = omega arith
-fronts-drop (suc n) (p ∷ x) = omega (arith, length-append (fronts x) (p ++ (46 ∷ [])), fronts-drop n x)
-
-fronts-extension : (x : List Token) → length (fronts (extension x)) ≤ length (fronts x)
-unfolding fronts extension
-fronts-extension [] = omega arith
-fronts-extension (p ∷ x) =
-    let q = p ++ (46 ∷ []) in
-    by-test (isDomainPart p)
-    (λ e. rw e (omega (arith, length-append (fronts (extension x)) q, length-append (fronts x) q, fronts-extension x)))
-    (λ e. rw e zero-le)
-
--- the room for n attributes that a record has once, from number k on, each with its dot
-abbrev room : ℕ → ℕ → ℕ
-room k zero = 0
-room k (suc n) = boundOf k + 1 + room (suc k) n
-
-fronts-kept : (k n : ℕ) (s : List Token) → allKept k s ≡ true → length (fronts (take n s)) ≤ room k n
-unfolding fronts allKept
-fronts-kept k zero s h = zero-le
-fronts-kept k (suc n) [] h = zero-le
-fronts-kept k (suc n) (v ∷ s) h =
-    omega (arith, length-append (fronts (take n s)) (v ++ (46 ∷ [])), length-append v (46 ∷ []), kept-within k v (and-left (kept k v) (allKept (suc k) s) h), fronts-kept (suc k) n s (and-right (kept k v) (allKept (suc k) s) h))
-
-fronts-units : (n : ℕ) (s : List Token) → all (λ v. leb (length v) 32) s ≡ true → length (fronts (take n s)) ≤ 33 * n
-unfolding fronts all
-fronts-units zero s h = zero-le
-fronts-units (suc n) [] h = zero-le
-fronts-units (suc n) (v ∷ s) h =
-    let e = leb (length v) 32 in
-    let p = all (λ v. leb (length v) 32) s in
-    omega (arith, length-append (fronts (take n s)) (v ++ (46 ∷ [])), length-append v (46 ∷ []), leb-true (length v) 32 (and-left e p h), fronts-units n s (and-right e p h))
-
--- the units and what fills up their levels
-units-short : (s : List Token) → all isUnit s ≡ true → all (λ v. leb (length v) 32) (s ++ replicate most []) ≡ true
-unfolding isUnit all
-units-short s h =
-    all-append (λ v. leb (length v) 32) s (replicate most [])
-    ∙ and-both (all-weaken isUnit (λ v. leb (length v) 32) (λ v e. le-leb (length v) 32 (value-length OU v e)) s h) refl
-
--- the eight levels of a canonical record, each with its dot
-levels-room : (a : Attributes) → canonical a ≡ true → length (fronts (levels a)) ≤ 235
-unfolding levels
-levels-room a h =
-    let p = canonical-parts a h in
-    let u = a .units ++ replicate most [] in
-    let x : length (fronts (take 4 (a .single))) ≤ 103 = fronts-kept 0 4 (a .single) (p .singles) in
-    let y : length (fronts (take most u)) ≤ 132 = fronts-units most u (units-short (a .units) (p .units)) in
-    omega (arith, fronts-append (take 4 (a .single)) (take most u))
+-- ---- the domain
 
 module _ (t : Table) (f : Formed t) (ls : List Token) where
   by-domain : (o : Option Row) → Answer byPath (t .toDomain) ls o → isDomain (planBy t ls o .domain) ≡ true
@@ -385,7 +326,7 @@ module _ (t : Table) (f : Formed t) (ls : List Token) where
   unfolding plan
   plan-domain = by-domain (look byPath (t .toDomain) ls) (found byPath (t .toDomain) ls)
 
-  by-length : length (fronts ls) ≤ 235 → (o : Option Row) → Answer byPath (t .toDomain) ls o → length (planBy t ls o .domain) ≤ 275
+  by-length : length (fronts ls) ≤ toldMost levelCount → (o : Option Row) → Answer byPath (t .toDomain) ls o → length (planBy t ls o .domain) ≤ toldMost levelCount + longestRowDomain
   unfolding planBy planUnder
   by-length l none b = omega (arith, row-domain longestGatewayDomain (t .gateway) (f .gateway) .0)
   by-length l (some r) b =
@@ -399,7 +340,7 @@ module _ (t : Table) (f : Formed t) (ls : List Token) where
         row-domain longestRowDomain r (all-mem (isRow longestRowDomain) (t .toDomain) r (b .mem) (f .domains)) .0,
       ))
 
-  plan-short : length (fronts ls) ≤ 235 → length (plan t ls .domain) ≤ 275
+  plan-short : length (fronts ls) ≤ toldMost levelCount → length (plan t ls .domain) ≤ toldMost levelCount + longestRowDomain
   unfolding plan
   plan-short l = by-length l (look byPath (t .toDomain) ls) (found byPath (t .toDomain) ls)
 

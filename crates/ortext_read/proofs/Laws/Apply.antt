@@ -72,7 +72,7 @@ pub record Holds (o : Outcome) (b : Attributes) : Type 0 where
   pub made : Made (o .record')
   pub shows : view (o .record') ≡ b
 
--- an addition past the eighth place changes nothing
+-- an addition past the last place changes nothing
 made-at : (r : Record) → Made r → (k : ℕ) (v : List ℕ) → Made (addSingle r k v .record')
 unfolding addSingle setSingle
 made-at r m k v =

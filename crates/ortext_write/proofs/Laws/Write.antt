@@ -21,14 +21,14 @@ use Rattle.chars.proofs.Laws.Class.{digit-printable, letter-printable}
 use Rattle.chars.proofs.Laws.Case.{equal-path}
 use Rattle.chars.proofs.Laws.Seq.{no-length, some-length}
 use Rattle.oraddr.specs.Attributes.{Attributes, Dd, singleOf}
-use Rattle.oraddr.specs.Bounds.{ADMD, C, C-LETTERS, CN, DD-TYPE, DD-VALUE, G, GQ, I, O, OU, PRMD, S, boundOf, isCountry, isSpace, isValue, most, ownLevels, rule, singleCount}
+use Rattle.oraddr.specs.Bounds.{ADMD, C, C-LETTERS, CN, DD-TYPE, DD-VALUE, G, GQ, I, O, OU, PRMD, S, boundOf, isCountry, isSpace, isValue, levelCount, most, ownLevels, rule, singleCount}
 use Rattle.oraddr.specs.Canonical.{allKept, canonical, isDd, isUnit, kept}
 use Rattle.oraddr.proofs.Laws.Canonical.{canonical-parts}
 use Rattle.oraddr.proofs.Laws.View.{value-length}
 use Rattle.ortext_segments.specs.Keys.{Keys, DD-KEY, OU-KEY, PN-KEY, SHORT-KEYS, keyCount, keyNumber, keys}
 use Rattle.ortext_name.specs.Name.{isShort, nameText}
 use Rattle.ortext_segments.specs.Segments.{Segment}
-use Rattle.ortext_write.specs.Write.{ddMost, ddSegment, hasShort, joined, keyValue, localText, longDd, longestText, nameIn, onlyName, order, plainSegment, quoted, quotedMost, recordText, remaining, segmentText, segmentsAt, segmentsIn, segmentsText, shortKey, unitMost, writesShort}
+use Rattle.ortext_write.specs.Write.{ddMost, ddSegment, hasShort, joined, keyValue, localText, longDd, longestText, nameIn, namesMost, onlyName, order, plainSegment, quoted, quotedMost, recordText, remaining, segmentText, segmentsAt, segmentsIn, segmentsText, shortKey, unitMost, writesShort}
 use Rattle.ortext_write.proofs.Laws.Left.{flat}
 use Rattle.ortext_name.proofs.Laws.Name.{length-name, name-all}
 
@@ -411,18 +411,35 @@ module _ (a : Attributes) (r : Ruled a) where
   unfolding keys bytes
   country-most = single-most a C 3 (lit< tt) (rw (country-quoted (singleOf a C) (r .singles C)) (kept-within C (singleOf a C) (r .singles C)))
 
-  units-most : length (keyText a OU-KEY) ≤ most * unitMost
+  units-most : length (keyText a OU-KEY) ≤ length (a .units) * unitMost
   units-most =
-      omega (arith, ap length (units-text a), flat-most unitText isUnit unitMost unit-most (reverse (a .units)) (all-reverse isUnit (a .units) (r .units)), length-reverse (a .units), r .few-units)
+      omega (arith, ap length (units-text a), flat-most unitText isUnit unitMost unit-most (reverse (a .units)) (all-reverse isUnit (a .units) (r .units)), length-reverse (a .units))
 
   dds-most : length (keyText a DD-KEY) ≤ most * ddMost
   dds-most = omega (arith, ap length (dds-text a), flat-most ddText isDd ddMost dd-most (a .dds) (r .dds), r .few-dds)
 
-  record-most : length (recordText keys a) ≤ longestText
+  -- the segments of the levels, and all others at their most
+  segments-most : length (recordText keys a)
+      ≤ most * ddMost + namesMost + length (keyText a OU-KEY) + length (keyText a O) + length (keyText a PRMD) + length (keyText a ADMD) + length (keyText a C) + 1
   unfolding keys bytes
-  record-most =
+  segments-most =
       let t = simp length-append at (ap length (joined-in keys a order)) in
-      omega (arith, length-text a, t, dds-most, own-most CN 4 (lit< tt) refl, own-most G 3 (lit< tt) refl, own-most I 3 (lit< tt) refl, own-most S 3 (lit< tt) refl, own-most GQ 4 (lit< tt) refl, units-most, own-most O 3 (lit< tt) refl, own-most PRMD 6 (lit< tt) refl, own-most ADMD 6 (lit< tt) refl, country-most)
+      omega (arith, length-text a, t, dds-most, own-most CN 4 (lit< tt) refl, own-most G 3 (lit< tt) refl, own-most I 3 (lit< tt) refl, own-most S 3 (lit< tt) refl, own-most GQ 4 (lit< tt) refl)
+
+  organisation-most : length (keyText a O) ≤ 3 + quotedMost O
+  unfolding keys bytes
+  organisation-most = own-most O 3 (lit< tt) refl
+
+  private-most : length (keyText a PRMD) ≤ 6 + quotedMost PRMD
+  unfolding keys bytes
+  private-most = own-most PRMD 6 (lit< tt) refl
+
+  domain-most : length (keyText a ADMD) ≤ 6 + quotedMost ADMD
+  unfolding keys bytes
+  domain-most = own-most ADMD 6 (lit< tt) refl
+
+  record-most : length (recordText keys a) ≤ longestText
+  record-most = omega (arith, segments-most, units-most, r .few-units, organisation-most, private-most, domain-most, country-most)
 
   local-most : length (localText keys a) ≤ longestText
   unfolding nameIn
@@ -436,6 +453,66 @@ text-bound a h n = record-most (remaining n a) (ruled n a h)
 
 pub local-bound : (a : Attributes) → canonical a ≡ true → (n : ℕ) → length (localText keys (remaining n a)) ≤ longestText
 local-bound a h n = local-most (remaining n a) (ruled n a h)
+
+-- Room for the first n levels, each with a dot. They take no more of a domain than their segments would of the text.
+abbrev pub toldMost : ℕ → ℕ
+toldMost zero = 0
+toldMost (suc zero) = boundOf C + 1
+toldMost (suc (suc zero)) = boundOf C + 1 + boundOf ADMD + 1
+toldMost (suc (suc (suc zero))) = boundOf C + 1 + boundOf ADMD + 1 + boundOf PRMD + 1
+toldMost (suc (suc (suc (suc n)))) = boundOf C + 1 + boundOf ADMD + 1 + boundOf PRMD + 1 + boundOf O + 1 + n * (boundOf OU + 1)
+
+module _ (a : Attributes) (h : canonical a ≡ true) where
+  -- a level that was told has no segment
+  told-out : (n k : ℕ) → k < min n ownLevels → length (keyText (remaining n a) k) ≡ 0
+  told-out n k l = ap length (single-none keys (remaining n a) k (omega arith) (single-out n a k l))
+
+  text-told : (n : ℕ) → n ≤ levelCount → length (recordText keys (remaining n a)) + toldMost n ≤ longestText
+  text-told zero l = omega (arith, text-bound a h 0)
+  text-told (suc zero) l =
+      let b = remaining 1 a in
+      let r = ruled 1 a h in
+      omega (arith, segments-most b r, units-most b r, r .few-units, organisation-most b r, private-most b r, domain-most b r, told-out 1 C (omega arith))
+  text-told (suc (suc zero)) l =
+      let b = remaining 2 a in
+      let r = ruled 2 a h in
+      omega (arith, segments-most b r, units-most b r, r .few-units, organisation-most b r, private-most b r, told-out 2 ADMD (omega arith), told-out 2 C (omega arith))
+  text-told (suc (suc (suc zero))) l =
+      let b = remaining 3 a in
+      let r = ruled 3 a h in
+      omega (arith, segments-most b r, units-most b r, r .few-units, organisation-most b r, told-out 3 PRMD (omega arith), told-out 3 ADMD (omega arith), told-out 3 C (omega arith))
+  text-told (suc (suc (suc (suc n)))) l =
+      let m = suc (suc (suc (suc n))) in
+      let b = remaining m a in
+      let r = ruled m a h in
+      omega (
+        arith,
+        segments-most b r,
+        units-most b r,
+        units-count m a,
+        canonical-parts a h .few-units,
+        told-out m O (omega arith),
+        told-out m PRMD (omega arith),
+        told-out m ADMD (omega arith),
+        told-out m C (omega arith),
+      )
+
+  told-few : (n : ℕ) → n ≤ levelCount → toldMost n ≤ toldMost levelCount
+  told-few zero l = zero-le
+  told-few (suc zero) l = omega arith
+  told-few (suc (suc zero)) l = omega arith
+  told-few (suc (suc (suc zero))) l = omega arith
+  told-few (suc (suc (suc (suc n)))) l = omega arith
+
+  -- what is left for the local part, and the levels that were told
+  pub local-told : (n : ℕ) → n ≤ levelCount → length (localText keys (remaining n a)) + toldMost n ≤ longestText
+  unfolding nameIn
+  local-told n l =
+      let b = remaining n a in
+      let r = ruled n a h in
+      by-test (writesShort b)
+      (λ e. omega (arith, ap length (local-short b e), length-name (nameIn b), kept-within G (singleOf b G) (r .singles G), kept-within I (singleOf b I) (r .singles I), kept-within S (singleOf b S) (r .singles S), told-few n l))
+      (λ e. omega (arith, ap length (local-long b e), text-told n l))
 
 -- ---- which characters the text has
 

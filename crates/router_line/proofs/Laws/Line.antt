@@ -23,7 +23,6 @@ use Rattle.ortext_read.specs.Apply as apply
 use Rattle.ortext_read.specs.Apply.{again, read, readText, refused, unread}
 use Rattle.ortext_segments.specs.Keys.{keys}
 use Rattle.ortext_write.specs.Write.{recordText, remaining}
-use Rattle.ortext_read.specs.declared.read.Answer.the-variants.{Done}
 use Rattle.ortext_read.specs.declared.read.Reading.{Reading}
 use Rattle.ortext_write.proofs.Laws.Write.{text-bound}
 use Rattle.table.specs.Formed.{Formed}
@@ -35,7 +34,6 @@ use Rattle.table.specs.Rows.{tableAt}
 use Rattle.table.specs.Table.{Table}
 use Rattle.table.specs.declared.load.Loaded.{Loaded}
 use Rattle.table.specs.declared.load.TableRead.{TableRead}
-use Rattle.table.specs.declared.load.TableRead.the-variants.{Malformed}
 use Rattle.mapping.specs.Answers.{addressRoom, outward, recordNumber, toldRecord}
 use Rattle.mapping.specs.Results.{RecordResult, malformedRecord}
 use Rattle.mapping.specs.ToAddress.{addressOf}

@@ -19,8 +19,8 @@ use Rattle.table.specs.Table.{Token}
 use Rattle.table.specs.Rows.{between}
 use Rattle.mapping.specs.Answers.{addressRoom}
 use Rattle.mapping.specs.Flat.{fronts}
-use Rattle.mapping.proofs.Laws.Flat.{extended-fronts, length-fronts}
-use Rattle.mapping.proofs.Laws.Route.{length-local, length-row}
+use Rattle.mapping.proofs.Laws.Flat.{extended-fronts}
+use Rattle.mapping.proofs.Laws.Route.{flat-eight, length-row, length-told}
 use Rattle.mailaddr.proofs.Laws.Shape.{quoted-longer}
 use borrow.Author.Needs.{needs}
 use Rattle.mapping_to_address.proofs.to_address.write_routed.Statement.{statement}
@@ -41,11 +41,8 @@ module _ (c : tie.Start) where
   local-fits : length (localPart c) ≤ longestText
   local-fits = local-bound (view (c .args .rec)) (canonical-view (c .args .rec) (c .pre .1 .0)) (c .args .route .own + c .args .route .more)
 
-  quoted-fits : length (quotedLocal (localPart c)) ≤ longestText + 2
-  quoted-fits = length-local (c .args .rec) (c .pre .1 .0) (c .args .route .own + c .args .route .more)
-
-  front-fits : length (fronts (frontLevels c)) ≤ 520
-  front-fits = rw (c .pre .1 .1 .0 .holds) at (length-fronts (c .pre .1 .1 .0) (c .args .route .own) (c .args .route .more) (c .pre .1 .1 .1 .1))
+  told-fits : length (quotedLocal (localPart c)) + length (fronts (frontLevels c)) ≤ longestText + 2
+  told-fits = length-told (c .args .rec) (c .pre .1 .0) (flat-eight (c .pre .1 .1 .0)) (c .args .route .own) (c .args .route .more) (c .pre .1 .1 .1 .1)
 
   domain-fits : length (rowDomain c) ≤ 253
   domain-fits = length-row (c .args .text .now) (c .args .route .row) (c .pre .1 .1 .1 .0)
@@ -63,7 +60,7 @@ quote-front-requires c κs =
     let start = w .before .before .before .before .before .before in
     let l = wrote-length (w .write-local .ensures) in (
       (omega (arith, local-fits start, w .write-local .ensures .moved), omega (arith, local-fits start, w .write-local .ensures .moved, l, start .pre .0)),
-      rw (local-text w) (omega (arith, quoted-fits start, l, start .pre .0)),
+      rw (local-text w) (omega (arith, told-fits start, l, start .pre .0)),
     )
 
 -- and then the quoted one over it
@@ -74,10 +71,11 @@ sent c =
     let u = localPart (w .before .before .before .before .before .before) in
     wrote-over (w .write-local .ensures) (rw (local-text w) at (c .quote-front .ensures)) (omega arith) (omega (arith, quoted-longer u))
 
-sent-end : (c : tie.After-quote-front) → (c .quote-front .result ≤ longestText + 2) × (length (c .quote-front .last .0) ≡ addressRoom)
+sent-end : (c : tie.After-quote-front) → let start = c .before .before .before .before .before .before .before .before .before .before in
+    (c .quote-front .result + length (fronts (frontLevels start)) ≤ longestText + 2) × (length (c .quote-front .last .0) ≡ addressRoom)
 sent-end c =
     let start = c .before .before .before .before .before .before .before .before .before .before in
-    (omega (arith, sent c .moved, quoted-fits start), wrote-length (sent c) ∙ start .pre .0)
+    (omega (arith, sent c .moved, told-fits start), wrote-length (sent c) ∙ start .pre .0)
 
 slice-write-dst : tie.Need-slice-write-dst
 slice-write-dst c = let e = sent-end (c .before .before) in omega (arith, e .0, e .1)
@@ -89,8 +87,7 @@ put-fronts-requires : tie.Need-put-fronts-requires
 put-fronts-requires c κs =
     let start = c .before .before .before .before .before .before .before .before .before .before .before .before .before in
     let e = sent-end (c .before .before .before) in
-    let f = length-fronts (start .pre .1 .1 .0) (start .args .route .own) (start .args .route .more) (start .pre .1 .1 .1 .1) in
-    (start .pre .1 .1 .1 .1, (start .pre .1 .1 .0 .ended, simp length-set (omega (arith, e .0, e .1, f))))
+    (start .pre .1 .1 .1 .1, (start .pre .1 .1 .0 .ended, rw (start .pre .1 .1 .0 .holds) (simp length-set (omega (arith, e .0, e .1)))))
 
 -- the levels in front are written
 fronted : (c : tie.After-put-fronts) →
@@ -108,7 +105,7 @@ unfolding between
 put-requires c κs =
     let at = c .before .before .before .before .before in
     let start = at .before .before .before .before .before .before .before .before .before .before .before .before .before .before in
-    omega (arith, fronted at .moved, fronted-length at, front-fits start, domain-fits start, sent-end (at .before .before .before .before) .0)
+    omega (arith, fronted at .moved, fronted-length at, domain-fits start, sent-end (at .before .before .before .before) .0)
 
 same-length : tie.Need-same-length
 same-length c =

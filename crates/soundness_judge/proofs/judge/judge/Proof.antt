@@ -4,6 +4,7 @@ use mathlib.Core.Path.{_≡_, sym, subst, _∙_}
 use mathlib.Core.Bool.{true}
 use lib.ListN.{length, length-map}
 use Rattle.chars.proofs.Laws.Lists.{true-not-false}
+use Rattle.oraddr.specs.Bounds.{singleCount}
 use Rattle.oraddr.specs.View.{singlesView, valueView, view}
 use Rattle.table.specs.Rows.{tableAt}
 use Rattle.soundness.specs.Check.{JudgedBy}
@@ -28,10 +29,10 @@ returns c =
     let k : comesBack t (a .rec) ≡ true = sym (c .before .before .comes-back .ensures) ∙ c .before .if1 .taken in
     subst (λ (x : CheckAnswer). JudgedBy t (comesBack t (a .rec) ≡ true) x (c .sound .result .«record»)) (sym (e .0)) (k, e .1)
 
--- a record struct has eight values
-eight : (c : tie.Start) → length (view (c .args .rec) .single) ≡ 8
+-- a record struct has a value for each attribute that a record has once
+places : (c : tie.Start) → length (view (c .args .rec) .single) ≡ singleCount
 unfolding view singlesView
-eight c = length-map (c .args .rec .singles .values) valueView ∙ simp length-map at (c .good .1 .1 .1 .1 .0 .1 .1 .0 .1 .1 .0 .1 .0 .1)
+places c = length-map (c .args .rec .singles .values) valueView ∙ simp length-map at (c .good .1 .1 .1 .1 .0 .1 .1 .0 .1 .1 .0 .1 .0 .1)
 
 returns-2 : tie.Need-returns-2
 returns-2 c =
@@ -39,7 +40,7 @@ returns-2 c =
     let a = start .args in
     let t = tableAt (a .text .now) (a .to-path .now) (a .to-domain .now) (a .table) in
     record {
-      struct = eight start;
+      struct = places start;
       canonical = start .pre .1 .0;
       free = start .pre .1 .1;
       lost = λ b. true-not-false (comesBack t (a .rec)) (back-comes t (a .rec) b) (sym (c .before .comes-back .ensures) ∙ c .if1 .left);
