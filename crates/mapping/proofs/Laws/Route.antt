@@ -50,12 +50,12 @@ pub length-tokens : (s ends : List ℕ) → length (levelTokens s ends) ≡ 8
 unfolding levelTokens tokensFrom
 length-tokens s ends = refl
 
-extension-take : (l : List Token) → extension l ≡ take (length (extension l)) l
+pub extension-take : (l : List Token) → extension l ≡ take (length (extension l)) l
 extension-take l =
     let x : List Token = extension l in
     sym (ap (take (length x)) (sym (extension-front l)) ∙ take-append-seam x (drop (length x) l))
 
-extension-fits : (l : List Token) → length (extension l) ≤ length l
+pub extension-fits : (l : List Token) → length (extension l) ≤ length l
 extension-fits l = omega (arith, length-append (extension l) (drop (length (extension l)) l), ap length (extension-front l))
 
 -- under a row whose path has no more levels than there are

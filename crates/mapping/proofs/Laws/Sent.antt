@@ -10,7 +10,7 @@ use Prim.Native.Nat.{ℕ, _+_, _≤_, _<_, zero-le}
 use native.Mathlib.Omega.{arith}
 use borrow.Author.Tests.{eqb-false, eqb-true, le-ltb, leb-true, ltb-false, ltb-true, ne-eqb, not-true}
 use lib.Dec.{eqb, leb, lit<, ltb}
-use lib.ListN.{length, drop, getD, length-append}
+use lib.ListN.{length, drop, getD, length-append, length-drop}
 use Rattle.chars.specs.Lists.{all, bytes, first, last, member, nonEmpty}
 use Rattle.chars.specs.Class.{between, isDigit, isLetter, isPrintable, isQuotable}
 use Rattle.chars.specs.Domain.{isDomainPart}
@@ -44,19 +44,19 @@ use Rattle.mailaddr.proofs.Laws.Domain.{domain-atoms}
 use Rattle.mailaddr.proofs.Laws.Shape.{quote-shape, quote-unquote}
 use Rattle.table.specs.Table.{Row, Table, Token}
 use Rattle.table.specs.Formed.{Formed}
-use Rattle.table.specs.Lines.{isPath, isRow, longestGatewayDomain, longestRowDomain}
+use Rattle.table.specs.Lines.{areFields, isPath, isRow, longestGatewayDomain, longestRowDomain}
 use Rattle.table_lookup.specs.Lookup.{byPath, extension, look}
 use Rattle.table_lookup.proofs.Laws.Lookup.{Answer, extension-parts, found}
-use Rattle.mapping.specs.Answers.{isGood, readWell}
+use Rattle.mapping.specs.Answers.{addressRoom, isGood, readWell}
 use Rattle.mapping.specs.Carried.{carrying, readOver, resultOf, settledUnder}
 use Rattle.mapping.specs.Flat.{fronts}
 use Rattle.mapping.specs.Results.{mapped}
 use Rattle.mapping.specs.ToAddress.{Plan, extended, plan, planBy, planUnder, planned}
 use Rattle.mapping.specs.ToRecord.{recordBy, recordIn, toRecord}
 use Rattle.mapping.proofs.Laws.Carried.{carried-is}
-use Rattle.mapping.proofs.Laws.Flat.{extended-fronts}
+use Rattle.mapping.proofs.Laws.Flat.{extended-fronts, length-levels}
 use Rattle.mapping.proofs.Laws.Fronts.{fronts-drop, fronts-extension, levels-room}
-use Rattle.mapping.proofs.Laws.Route.{length-local}
+use Rattle.mapping.proofs.Laws.Route.{extension-fits, extension-take, length-local, length-told}
 
 -- ---- spaces
 
@@ -310,6 +310,13 @@ row-domain n r h =
     let p = and-three (leb (length (r .domain)) n) (isDomain (r .domain)) (isPath (r .path)) h in
     (leb-true (length (r .domain)) n (p .0), p .1)
 
+row-few : (n : ℕ) (r : Row) → isRow n r ≡ true → length (r .path) ≤ levelCount
+unfolding isRow isPath
+row-few n r h =
+    let p = r .path in
+    let q = and-three (leb (length (r .domain)) n) (isDomain (r .domain)) (isPath p) h .2 in
+    leb-true (length p) levelCount (and-three (leb 2 (length p)) (leb (length p) levelCount) (areFields 0 p) q .1)
+
 -- ---- the domain
 
 module _ (t : Table) (f : Formed t) (ls : List Token) where
@@ -384,6 +391,35 @@ module _ (t : Table) (f : Formed t) (r : Record) (h : canonicalRecord r ≡ true
       let u = sentLocal t r in
       let d = sentPlan t r .domain in
       omega (arith, length-append (quotedLocal u) (64 ∷ d), length-local r h (sentPlan t r .from), plan-short t f (levels (view r)) (levels-room (view r) (canonical-view r h)))
+
+  -- There is room for it, where the record is one.
+  module _ (l : length (view r .single) ≡ singleCount) where
+    by-most : (o : Option Row) → Answer byPath (t .toDomain) (levels (view r)) o → length (planned (planBy t (levels (view r)) o) (view r)) ≤ addressRoom
+    unfolding planBy planUnder planned addressText
+    by-most none b =
+        let u = localText keys (remaining 0 (view r)) in
+        omega (arith, length-append (quotedLocal u) (64 ∷ t .gateway .domain), length-local r h 0, row-domain longestGatewayDomain (t .gateway) (f .gateway) .0)
+    by-most (some row) b =
+        let own = length (row .path) in
+        let rest = drop own (levels (view r)) in
+        let x = extension rest in
+        let u = localText keys (remaining (own + length x) (view r)) in
+        let is = all-mem (isRow longestRowDomain) (t .toDomain) row (b .mem) (f .domains) in
+        let eight = length-levels (view r) l in
+        let few : own + length x ≤ levelCount = omega (arith, extension-fits rest, length-drop own (levels (view r)), row-few longestRowDomain row is, eight) in
+        omega (
+          arith,
+          length-append (quotedLocal u) (64 ∷ extended (row .domain) x),
+          ap length (extended-fronts (row .domain) x),
+          length-append (fronts x) (row .domain),
+          ap (λ (ts : List Token). length (fronts ts)) (extension-take rest),
+          length-told r h eight own (length x) few,
+          row-domain longestRowDomain row is .0,
+        )
+
+    pub sent-most : length (sentText t r) ≤ addressRoom
+    unfolding plan
+    sent-most = by-most (look byPath (t .toDomain) (levels (view r))) (found byPath (t .toDomain) (levels (view r)))
 
   -- It has the accepted shape.
   pub sent-shaped : shaping (sentText t r) ≡ shaped (sentAddress t r)

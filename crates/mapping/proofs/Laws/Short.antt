@@ -10,7 +10,7 @@ use lib.ListN.{length}
 use Rattle.chars.specs.Lists.{all}
 use Rattle.chars.proofs.Laws.Lists.{and-left, and-right, by-test}
 use Rattle.oraddr.specs.Attributes.{Dd}
-use Rattle.oraddr.specs.Bounds.{DD-TYPE, DD-VALUE, isValue}
+use Rattle.oraddr.specs.Bounds.{DD-TYPE, DD-VALUE, isValue, singleCount}
 use Rattle.oraddr.specs.Canonical.{canonicalRecord, isDd}
 use Rattle.oraddr.specs.View.{view}
 use Rattle.oraddr.specs.declared.record.Record.{Record}
@@ -21,10 +21,11 @@ use Rattle.mailaddr.specs.Shape.{longestAddress, shapeOf}
 use Rattle.mailaddr.proofs.Laws.Code.{decoded-length}
 use Rattle.table.specs.Formed.{Formed}
 use Rattle.table.specs.Table.{Table}
+use Rattle.mapping.specs.Answers.{addressRoom}
 use Rattle.mapping.specs.Carried.{isNone, longestCoded}
 use Rattle.mapping.specs.ToAddress.{addressOf, carriedAddress, carriedValue, inShape, isCarrier}
 use Rattle.mapping.proofs.Laws.Route.{address-carried, address-planned}
-use Rattle.mapping.proofs.Laws.Sent.{sent-short}
+use Rattle.mapping.proofs.Laws.Sent.{sent-most, sent-short}
 
 -- a text in the accepted shape is the one that was decoded, which is no longer than the value of a DD
 shape-of : (o : Option (List ℕ)) (s : List ℕ) → inShape o ≡ some s → o ≡ some s
@@ -50,3 +51,11 @@ address-short t f r s c a =
     by-test (isCarrier t (view r))
     (λ k. omega (arith, carried-short (view r .dds) s (canonical-parts (view r) (canonical-view r c) .dds) (sym (address-carried t (view r) k) ∙ a)))
     (λ k. subst (λ (u : List ℕ). length u ≤ longestAddress) (Option·some-injective _ s (sym (address-planned t (view r) k) ∙ a)) (sent-short t f r c))
+
+-- there is room for it, where the record is one
+pub address-most : (t : Table) → Formed t → (r : Record) (s : List ℕ) → length (view r .single) ≡ singleCount → canonicalRecord r ≡ true → addressOf t (view r) ≡ some s
+    → length s ≤ addressRoom
+address-most t f r s l c a =
+    by-test (isCarrier t (view r))
+    (λ k. omega (arith, carried-short (view r .dds) s (canonical-parts (view r) (canonical-view r c) .dds) (sym (address-carried t (view r) k) ∙ a)))
+    (λ k. subst (λ (u : List ℕ). length u ≤ addressRoom) (Option·some-injective _ s (sym (address-planned t (view r) k) ∙ a)) (sent-most t f r c l))

@@ -9,7 +9,7 @@ use Prim.Native.Nat.{ℕ, zero, suc, _+_, _≤_, _<_}
 use native.Mathlib.Omega.{arith}
 use borrow.Author.Tests.{eqb-false, eqb-true, leb-true, ltb-false, ltb-true, not-true}
 use lib.Dec.{eqb, leb, ltb}
-use lib.ListN.{length, getD, set, drop, take, drop-of-length-le, length-map}
+use lib.ListN.{length, getD, set, drop, take, drop-of-length-le, length-map, length-set}
 use lib.Seq.{drop-cons, getD-set-other}
 use Rattle.chars.specs.Lists.{all, nonEmpty}
 use Rattle.chars.proofs.Laws.Lists.{and-both, and-left, and-right, and-three, by-test, true-not-false}
@@ -312,6 +312,19 @@ module _ (q : Record) (s : List ℕ) where
   pub whole-text : readText keys 0 emptyRecord s ≡ read q → WholeText s q
   unfolding readText
   whole-text h = text-segments (readSegments keys s) refl h
+
+  -- It has a place for each attribute that a record has once.
+  pub text-places : readText keys 0 emptyRecord s ≡ read q → length (view q .single) ≡ singleCount
+  unfolding merged completed
+  text-places h =
+      let w = whole-text h in
+      ap (λ (a : Attributes). length (a .single)) (w .shows) ∙ completed-places (merged (view emptyRecord) (w .names)) refl
+    where
+      completed-places : (a : Attributes) → length (a .single) ≡ singleCount → length (completed a .single) ≡ singleCount
+      completed-places a l =
+          by-test (nonEmpty (singleOf a C) && not (nonEmpty (singleOf a ADMD)))
+          (λ e. rw e (length-set (a .single) ADMD (32 ∷ []) ∙ l))
+          (λ e. rw e l)
 
 -- ---- what the domain settled
 

@@ -13,6 +13,7 @@ use lib.Seq.{drop-at, length-take-le, take-append-le}
 use Rattle.chars.specs.Write.{Wrote}
 use Rattle.chars.proofs.Laws.Lists.{by-test}
 use Rattle.chars.proofs.Laws.Write.{wrote-length, wrote-over, wrote-within}
+use Rattle.oraddr.specs.Bounds.{singleCount}
 use Rattle.oraddr.specs.Canonical.{canonicalRecord}
 use Rattle.oraddr.specs.View.{emptyRecord, view}
 use Rattle.oraddr.specs.declared.record.Record.{Record}
@@ -43,7 +44,8 @@ use Rattle.mapping.specs.declared.answers.RecordAnswer.the-variants as record-a
 use Rattle.mapping.specs.declared.answers.ToRecord.{ToRecord}
 use Rattle.mapping.proofs.Laws.Returned.{done-canonical}
 use Rattle.mapping.proofs.Laws.Route.{address-under}
-use Rattle.mapping.proofs.Laws.Short.{address-short}
+use Rattle.mapping.proofs.Laws.Short.{address-most}
+use Rattle.mapping.proofs.Laws.Whole.{text-places}
 use Rattle.router_line.specs.Line.{answerRoom, doneLine, lineAnswer, longestLine, readLine, recordLine, refusedLine, sentLine, taggedLine, textAt, textLine}
 
 -- a write of a text is one of an equal text
@@ -189,19 +191,20 @@ module _ (t : Table) (f : Formed t) where
       rw e (done-length (recordText keys (view r)) (omega (arith, text-bound (view r) (canonical-view r c) 0))))
       (λ e. rw e (refused-length (toRecord t s .number)))
 
-  sent-length : (r : Record) (o : Option (List ℕ)) → canonicalRecord r ≡ true → addressOf t (view r) ≡ o → length (sentLine o) ≤ answerRoom
+  sent-length : (r : Record) (o : Option (List ℕ)) → length (view r .single) ≡ singleCount → canonicalRecord r ≡ true → addressOf t (view r) ≡ o
+      → length (sentLine o) ≤ answerRoom
   unfolding sentLine
-  sent-length r none c e = refused-length 5
-  sent-length r (some s) c e = done-length s (omega (arith, address-short t f r s c e))
+  sent-length r none l c e = refused-length 5
+  sent-length r (some s) l c e = done-length s (address-most t f r s l c e)
 
-  read-length : (x : apply.Reading) → length (readLine t x) ≤ answerRoom
+  read-length : (x : apply.Reading) → ((r : Record) → x ≡ read r → length (view r .single) ≡ singleCount) → length (readLine t x) ≤ answerRoom
   unfolding readLine
-  read-length unread = refused-length 4
-  read-length refused = refused-length 4
-  read-length again = refused-length 4
-  read-length (read r) =
+  read-length unread l = refused-length 4
+  read-length refused l = refused-length 4
+  read-length again l = refused-length 4
+  read-length (read r) l =
       by-test (canonicalRecord r)
-      (λ c. rw c (sent-length r (addressOf t (view r)) c refl))
+      (λ c. rw c (sent-length r (addressOf t (view r)) (l r refl) c refl))
       (λ c. rw c (refused-length 4))
 
 -- under what a table text comes to
@@ -217,7 +220,7 @@ address-length (wellFormed t) s f = record-length t f s
 text-length : (l : lines.TableOutcome) (s : List ℕ) → FormedBy l → length (textLine l s) ≤ answerRoom
 unfolding textLine
 text-length (malformed n) s f = refused-length 7
-text-length (wellFormed t) s f = read-length t f (readText keys 0 emptyRecord s)
+text-length (wellFormed t) s f = read-length t f (readText keys 0 emptyRecord s) (λ r e. text-places r s e)
 
 tagged-length : (l : lines.TableOutcome) (tag : ℕ) (s : List ℕ) → FormedBy l → length (taggedLine l tag s) ≤ answerRoom
 unfolding taggedLine

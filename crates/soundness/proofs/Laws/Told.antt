@@ -14,7 +14,6 @@ use lib.ListN.{length, take}
 use Rattle.chars.specs.Write.{front}
 use Rattle.chars.proofs.Laws.Lists.{by-test, true-not-false}
 use Rattle.chars.proofs.Laws.Write.{length-front, take-front}
-use Rattle.mailaddr.specs.Shape.{longestAddress}
 use Rattle.oraddr.specs.Add.{Outcome, told}
 use Rattle.oraddr.specs.Canonical.{canonicalRecord}
 use Rattle.oraddr.specs.Same.{sameRecord}
@@ -24,7 +23,6 @@ use Rattle.oraddr.specs.declared.record.Record.{Record}
 use Rattle.table.specs.Formed.{Formed}
 use Rattle.table_settle.specs.Settle.{addLevel, addLevels, begun}
 use Rattle.table.specs.Table.{Table, Token}
-use Rattle.mailaddr.specs.Shape.{longestAddress}
 use Rattle.mapping.specs.Answers.{addressNumber, addressRoom, recordNumber, toldAddress, toldRecord}
 use Rattle.mapping.specs.Results.{AddressResult, RecordResult}
 use Rattle.mapping.specs.ToAddress.{toAddress}
@@ -32,9 +30,9 @@ use Rattle.mapping.specs.ToRecord.{toRecord}
 use Rattle.mapping.specs.declared.answers.ToAddress.{ToAddress}
 use Rattle.mapping.specs.declared.answers.RecordAnswer.the-variants.{Done}
 use Rattle.mapping.specs.declared.answers.ToRecord.{ToRecord}
-use Rattle.mapping.proofs.Laws.Short.{address-short}
+use Rattle.mapping.proofs.Laws.Short.{address-most}
 use Rattle.soundness.specs.Check.{candidateOf, withSurname}
-use Rattle.soundness.specs.Sound.{backBy, comesBack, textOf}
+use Rattle.soundness.specs.Sound.{IsStruct, backBy, comesBack, textOf}
 use Rattle.soundness.proofs.Laws.Comes.{given, refused}
 
 -- ---- a token behind the levels
@@ -75,18 +73,18 @@ module _ (t : Table) (s : List ℕ) (r : Record) (x : ToRecord) (e : toldRecord 
 
 -- ---- whether a record comes back
 
-module _ (t : Table) (f : Formed t) (r : Record) where
-  -- the text that a record goes out as is short
-  text-short : (s : List ℕ) → textOf t r ≡ some s → length s ≤ longestAddress
+module _ (t : Table) (f : Formed t) (r : Record) (struct : IsStruct r) where
+  -- there is room for the text that a record goes out as
+  text-most : (s : List ℕ) → textOf t r ≡ some s → length s ≤ addressRoom
   unfolding textOf
-  text-short s e =
+  text-most s e =
       by-test (canonicalRecord r)
-      (λ c. address-short t f r s c (rw c at e))
+      (λ c. address-most t f r s struct c (rw c at e))
       (λ c. let n : _≡_ {A = Option (List ℕ)} none (some s) = rw c at e in let z : _≡_ {A = ℕ} 0 1 = cc in absurd (omega arith))
 
   module _ (x : ToAddress) (old new : List ℕ) (l : length old ≡ addressRoom) (e : toldAddress x new ≡ toAddress t r old) where
     placed-text : (s : List ℕ) → textOf t r ≡ some s → toldAddress x new ≡ record { number = 0; line = 0; size = length s; buffer = front s old }
-    placed-text s k = e ∙ given t r s old k (omega (arith, text-short s k))
+    placed-text s k = e ∙ given t r s old k (omega (arith, text-most s k))
 
     -- the text that was written
     pub told-text : eqb (addressNumber (x .answer)) 0 ≡ true → (textOf t r ≡ some (take (x .size) new)) × (x .size ≤ length new)
@@ -99,7 +97,7 @@ module _ (t : Table) (f : Formed t) (r : Record) where
             let q = placed-text s k in
             let n : x .size ≡ length s = ap (λ (y : AddressResult). y .size) q in
             let b : new ≡ front s old = ap (λ (y : AddressResult). y .buffer) q in
-            (k ∙ ap some (rw (n, b) (sym (take-front s old))), rw (n, b) (omega (arith, length-front s old (omega (arith, text-short s k)), text-short s k)))
+            (k ∙ ap some (rw (n, b) (sym (take-front s old))), rw (n, b) (omega (arith, length-front s old (omega (arith, text-most s k)), text-most s k)))
 
     -- there was none
     pub told-not : eqb (addressNumber (x .answer)) 0 ≡ false → false ≡ comesBack t r

@@ -6,14 +6,15 @@ use mathlib.Core.Bool.{false}
 use mathlib.Core.Option.{some}
 use Prim.Native.Nat.{_≤_}
 use lib.Dec.{eqb}
-use lib.ListN.{length, replicate, take}
+use lib.ListN.{length, replicate, take, length-map}
 use lib.Seq.{length-take-le}
+use Rattle.oraddr.specs.View.{singlesView, valueView, view}
 use Rattle.table.specs.Rows.{tableAt}
 use Rattle.mapping.specs.Answers.{addressNumber, addressRoom, toldAddress}
 use Rattle.mapping.specs.ToAddress.{toAddress}
 use Rattle.mapping.specs.declared.answers.AddressAnswer.{AddressAnswer}
 use Rattle.mapping.proofs.Laws.Route.{address-table}
-use Rattle.soundness.specs.Sound.{backBy, comesBack, textOf}
+use Rattle.soundness.specs.Sound.{IsStruct, backBy, comesBack, textOf}
 use Rattle.soundness.proofs.Laws.Told.{told-not, told-text}
 use borrow.Author.Needs.{needs}
 use Rattle.soundness_judge.proofs.judge.comes_back.Statement.{statement}
@@ -26,6 +27,11 @@ told c =
     let a = c .before .before .before .before .before .args in
     c .map-record .ensures ∙ address-table (a .text .now) (a .to-path .now) (a .to-domain .now) (a .table) (a .rec) (replicate addressRoom 0)
 
+-- a record struct has a value for each attribute that a record has once
+struct : (c : tie.Start) → IsStruct (c .args .rec)
+unfolding view singlesView
+struct c = length-map (c .args .rec .singles .values) valueView ∙ simp length-map at (c .good .1 .1 .1 .1 .0 .1 .1 .0 .1 .1 .0 .1 .0 .1)
+
 -- the text that was written
 written : (c : tie.After-enum-told) → let at = c .before .before .before in
     let a = at .before .before .before .before .before .args in
@@ -36,7 +42,7 @@ written c =
     let at = c .before .before .before in
     let start = at .before .before .before .before .before in
     let a = start .args in
-    told-text (tableAt (a .text .now) (a .to-path .now) (a .to-domain .now) (a .table)) (start .pre .formed) (a .rec) (at .map-record .result) (replicate addressRoom 0) (at .map-record .last .1 .1 .1 .1 .0) refl (told at)
+    told-text (tableAt (a .text .now) (a .to-path .now) (a .to-domain .now) (a .table)) (start .pre .formed) (a .rec) (struct start) (at .map-record .result) (replicate addressRoom 0) (at .map-record .last .1 .1 .1 .1 .0) refl (told at)
     (ap (λ (x : AddressAnswer). eqb (addressNumber x) 0) (c .enum-told .given .1))
 
 array-share-prefix-out : tie.Need-array-share-prefix-out
@@ -60,7 +66,7 @@ other : (c : tie.After-map-record) → let a = c .before .before .before .before
 other c h =
     let start = c .before .before .before .before .before in
     let a = start .args in
-    told-not (tableAt (a .text .now) (a .to-path .now) (a .to-domain .now) (a .table)) (start .pre .formed) (a .rec) (c .map-record .result) (replicate addressRoom 0) (c .map-record .last .1 .1 .1 .1 .0) refl (told c) h
+    told-not (tableAt (a .text .now) (a .to-path .now) (a .to-domain .now) (a .table)) (start .pre .formed) (a .rec) (struct start) (c .map-record .result) (replicate addressRoom 0) (c .map-record .last .1 .1 .1 .1 .0) refl (told c) h
 
 returns-2 : tie.Need-returns-2
 unfolding addressNumber
