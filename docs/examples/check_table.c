@@ -27,7 +27,7 @@ static const char *in_words(unsigned number)
     case GATEWAY_NO_ADDRESS:
         return "it is not an address";
     case GATEWAY_LONG_ADDRESS:
-        return "it is over 2,048 bytes";
+        return "it is over 2,304 bytes";
     case GATEWAY_LONG_CARRIED:
         return "it would have to be carried whole, and is too long for that";
     case GATEWAY_NO_RECORD:

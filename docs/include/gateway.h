@@ -16,13 +16,15 @@
  * the gateway's entry first, and one text in which the domains and paths stand. The functions that take one begin with
  * gateway_list_.
  *
- * An address is RFC 822's local-part@domain, at most 2,048 bytes. A record is an X.400 address as text:
+ * An address is RFC 822's local-part@domain, at most 2,304 bytes. A record is an X.400 address as text:
  *
  *     /G=Ann/S=Lee/OU=Pilots/O=brack/PRMD=TOW/ADMD=PORTNET/C=XY/
+ *     /CN=Harbour Master/O=brack/PRMD=TOW/ADMD=PORTNET/C=XY/
  *
  * Keys: C, ADMD, PRMD, O, OU (up to four, the most significant rightmost), S surname, G given name, I initials, GQ generation,
- * PN a whole personal name, DD.type a domain defined attribute, RFC-822 short for DD.RFC-822. In values `/` and `=` stand behind
- * a `$`.
+ * PN a whole personal name, CN common name, DD.type a domain defined attribute (up to four), RFC-822 short for DD.RFC-822. In
+ * values `/` and `=` stand behind a `$`. A record has C, ADMD (one space, if none is named), and S, CN or a DD; G, I and GQ stand
+ * only with S.
  *
  * What every function keeps to:
  *
@@ -61,7 +63,7 @@ extern "C" {
 #define GATEWAY_DONE 0          /* done; the length of the text at the front of `out` (0 from the check) */
 #define GATEWAY_NO_ADDRESS 1    /* the address is not of the form local-part@domain, the line is no mailbox, or text to code or to
                                    decode has a byte over 127; 0 */
-#define GATEWAY_LONG_ADDRESS 2  /* the address is over 2,048 bytes, or a mailbox's line over 4,096; 0 */
+#define GATEWAY_LONG_ADDRESS 2  /* the address is over 2,304 bytes, or a mailbox's line over 4,096; 0 */
 #define GATEWAY_LONG_CARRIED 3  /* it has to be carried whole, and its coded form is over the 128 characters of a record; 0 */
 #define GATEWAY_NO_RECORD 4     /* the text is no record text, or its record breaks a rule of X.400's; 0 */
 #define GATEWAY_BAD_CARRIED 5   /* the record carries an RFC 822 address, and its value does not decode to one; 0 */
@@ -74,7 +76,7 @@ extern "C" {
 
 /* Room for any answer under a table: no text that a function with a table or a list writes at once, with the number, tab and LF
    of gateway_route, is longer. */
-#define GATEWAY_ANSWER_ROOM 2563
+#define GATEWAY_ANSWER_ROOM 2646
 
 /* Room for any date, in either form. */
 #define GATEWAY_DATE_ROOM 24
@@ -257,7 +259,7 @@ size_t gateway_date_to_x400(const uint8_t *date, size_t date_len, uint8_t *out, 
 /*
  * Writes the bare address, without white space outside quotes. The route is dropped. A local part with a quoted word is written as
  * one quoted string of the same meaning, in which only `"` and `\` stand behind a backslash; any other is written as its atoms,
- * joined by dots. An address may come out over 2,048 bytes; gateway_to_record then answers 2.
+ * joined by dots. An address may come out over 2,304 bytes; gateway_to_record then answers 2.
  *
  * Numbers, the first that holds: 2, 9, 1, 6; else 0.
  */

@@ -4,7 +4,7 @@ use crate::chars::{dotted_atoms, is, is_dotted_atoms, same, ITSELF};
 use crate::scratch::Room;
 
 /// The longest address that is taken.
-pub const LIMIT: usize = 2048;
+pub const LIMIT: usize = 2304;
 
 pub struct Parts<'a> {
     pub local: &'a [u8],

@@ -6,8 +6,8 @@
 //! - `tail first second`: the tail
 //! - `witness table record-text`: 1 for a record that is canonical, no carrier and does not come back, else 0
 //!
-//! A record is eight fields (C, ADMD, PRMD, O, S, G, I, GQ; `-` is absent), its units and its DDs, both ending each item in a comma, a
-//! DD's type and value parted by a colon.
+//! A record is nine fields (C, ADMD, PRMD, O, S, G, I, GQ, CN; `-` is absent), its units and its DDs, both ending each item in a comma,
+//! a DD's type and value parted by a colon.
 
 use std::io::{self, BufRead, Write};
 
@@ -36,6 +36,9 @@ fn hex(text: &[u8]) -> String {
     text.iter().map(|b| format!("{b:02x}")).collect()
 }
 
+/// How many attributes a record has at most once.
+const SINGLE: usize = 9;
+
 /// What a record's fields spell, to lend it its values.
 struct Spelt {
     values: Vec<Option<Vec<u8>>>,
@@ -47,9 +50,9 @@ impl Spelt {
     fn new(fields: &[&str]) -> Spelt {
         let value = |field: &&str| Some(*field).filter(|field| *field != "-").map(bytes);
         Spelt {
-            values: fields[..8].iter().map(value).collect(),
-            units: fields[8].split_terminator(',').map(bytes).collect(),
-            dds: fields[9]
+            values: fields[..SINGLE].iter().map(value).collect(),
+            units: fields[SINGLE].split_terminator(',').map(bytes).collect(),
+            dds: fields[SINGLE + 1]
                 .split_terminator(',')
                 .map(|dd| dd.split_once(':').expect("a type and a value"))
                 .map(|(k, v)| (bytes(k), bytes(v)))
@@ -60,8 +63,7 @@ impl Spelt {
     fn record(&self) -> Record<'_> {
         let value = |which: usize| self.values[which].as_deref();
         let mut record = Record::default();
-        (record.s, record.g) = (value(4), value(5));
-        (record.i, record.gq) = (value(6), value(7));
+        [record.s, record.g, record.i, record.gq, record.cn] = [4, 5, 6, 7, 8].map(value);
         for level in 0..OU {
             *record.levels.get_mut(level) = value(level);
         }

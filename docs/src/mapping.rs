@@ -160,10 +160,11 @@ fn read_local<'a>(
     }
 }
 
-/// A carrier: the gateway's path, no name, and one DD of type RFC-822.
+/// A carrier: the gateway's path, no name, no common name either, and one DD of type RFC-822.
 pub fn is_carrier(table: &Table, record: &Record) -> bool {
     let mut named = table.gateway().levels();
     !record.has_name()
+        && record.cn.is_none()
         && matches!(record.dds(), [dd] if dd.is_rfc_822())
         && record
             .levels
@@ -226,10 +227,12 @@ fn send(table: &Table, record: &Record, out: &mut Vec<u8>) {
     out.extend_from_slice(domain);
 }
 
-/// Writes what the local part says: the name alone where nothing else is left of the levels from `left` on, and the rules have it short.
+/// Writes what the local part says: the personal name alone where nothing else is left, of the levels from `left` on too, and the rules
+/// have it short.
 fn write_local(record: &Record, left: usize, out: &mut Vec<u8>) {
-    let only_name =
-        record.dds().is_empty() && record.levels.iter().skip(left).all(|value| value.is_none());
+    let only_name = record.dds().is_empty()
+        && record.cn.is_none()
+        && record.levels.iter().skip(left).all(|value| value.is_none());
     if !(only_name && write_short(record, out)) {
         write_text(record, left, out);
     }

@@ -27,6 +27,8 @@ impl Dd<'_> {
 #[derive(Clone, Debug, Default)]
 pub struct Record<'a> {
     pub levels: Levels<'a>,
+    /// The common name.
+    pub cn: Value<'a>,
     pub s: Value<'a>,
     pub g: Value<'a>,
     pub i: Value<'a>,
@@ -48,13 +50,20 @@ impl<'a> Record<'a> {
         &self.dds[..self.dd_count.min(DDS)]
     }
 
+    /// Whether a part of a personal name is there; the common name is none.
     pub fn has_name(&self) -> bool {
         self.s.is_some() || self.g.is_some() || self.i.is_some() || self.gq.is_some()
     }
 
     pub fn is_canonical(&self) -> bool {
-        let names = [(self.s, 40), (self.g, 16), (self.i, 5), (self.gq, 3)];
-        (self.s.is_some() || (self.dd_count > 0 && !self.has_name()))
+        let names = [
+            (self.cn, 64),
+            (self.s, 40),
+            (self.g, 16),
+            (self.i, 5),
+            (self.gq, 3),
+        ];
+        (self.s.is_some() || ((self.cn.is_some() || self.dd_count > 0) && !self.has_name()))
             && self.dd_count <= DDS
             && self.levels.is_canonical()
             && names
@@ -69,6 +78,7 @@ impl<'a> Record<'a> {
     /// The same record: letter case aside, but DD values byte for byte.
     pub fn is_same(&self, other: &Record) -> bool {
         self.levels.is_same(&other.levels)
+            && alike(self.cn, other.cn)
             && alike(self.s, other.s)
             && alike(self.g, other.g)
             && alike(self.i, other.i)

@@ -19,6 +19,7 @@ enum Key<'a> {
     /// A level above the units.
     Level(usize),
     Unit,
+    Cn,
     S,
     G,
     I,
@@ -81,6 +82,7 @@ fn plain_key(key: &[u8]) -> Key<'static> {
         [b'P' | b'p', b'R' | b'r', b'M' | b'm', b'D' | b'd'] => Key::Level(PRMD),
         [b'O' | b'o'] => Key::Level(O),
         [b'O' | b'o', b'U' | b'u'] => Key::Unit,
+        [b'C' | b'c', b'N' | b'n'] => Key::Cn,
         [b'S' | b's'] => Key::S,
         [b'G' | b'g'] => Key::G,
         [b'I' | b'i'] => Key::I,
@@ -129,6 +131,7 @@ impl<'a> Named<'a, '_> {
             Key::Dd(kind) => return record.add_dd(Dd { kind, value }),
             Key::Unknown => return self.note(Fault::UnknownKey),
             Key::Level(level) => record.levels.get_mut(level),
+            Key::Cn => &mut record.cn,
             Key::S => &mut record.s,
             Key::G => &mut record.g,
             Key::I => &mut record.i,
@@ -182,7 +185,7 @@ fn write_value<const LENGTH: usize>(key: &[u8; LENGTH], value: Value, out: &mut 
     out.extend_from_slice(rest);
 }
 
-/// Writes record text of the DDs, the name, and the levels from `from` on, in the order that the rules give.
+/// Writes record text of the DDs, the names, and the levels from `from` on, in the order that the rules give.
 pub fn write_text(record: &Record, from: usize, out: &mut Vec<u8>) {
     for dd in record.dds() {
         if dd.is_rfc_822() {
@@ -192,6 +195,7 @@ pub fn write_text(record: &Record, from: usize, out: &mut Vec<u8>) {
             write_value(b"=", Some(dd.value), out);
         }
     }
+    write_value(b"/CN=", record.cn, out);
     write_value(b"/G=", record.g, out);
     write_value(b"/I=", record.i, out);
     write_value(b"/S=", record.s, out);

@@ -1,11 +1,13 @@
 //! Internet addresses: names and record text at domains under a table's rows, at the gateway and elsewhere, each clause of "carried
 //! whole", lengths at the limits, and texts that are no addresses.
 
+use plain::address::LIMIT;
 use plain::chars::is_dotted_atoms;
 
+use crate::common_names::odd_segments;
 use crate::damage::noise;
 use crate::random::Random;
-use crate::records::{local_text, odd_text, record};
+use crate::records::{local_text, longest, odd_text, record};
 use crate::tables::{joined, Sample};
 
 /// No domain part, or at the edge of one.
@@ -133,8 +135,13 @@ const SPECIAL: &[&[u8]] = &[
     b"Marshall.",
 ];
 
+/// A local part, unquoted, that names a common name and is odd.
+fn odd_name(random: &mut Random) -> Vec<u8> {
+    [&odd_segments(random)[..], b"/"].concat()
+}
+
 fn unquoted(random: &mut Random, table: &Sample) -> Vec<u8> {
-    match random.below(16) {
+    match random.below(18) {
         0..=5 => name(random),
         6..=8 => local_text(random, table),
         9 | 10 => record(random, table).text(0),
@@ -144,16 +151,31 @@ fn unquoted(random: &mut Random, table: &Sample) -> Vec<u8> {
             .collect(),
         // the coded form at 128 and about
         14 => vec![b'a'; random.between(90, 130)],
+        15 | 16 => odd_name(random),
         _ => random.pick(SPECIAL).to_vec(),
     }
 }
 
-/// An address of about the longest length, in its local part, in its domain, or by many segments.
+/// The limit before records had common names; nothing ends there now.
+pub const EARLIER_LIMIT: usize = 2048;
+
+/// The longest record's text at the gateway, with as many backslashes as bring the address to this length.
+fn filled_address(random: &mut Random, table: &Sample, length: usize) -> Vec<u8> {
+    let text = longest(random).text(0);
+    let domain = &table.gateway.domain;
+    let unfilled = [b"\"", &text[..], b"\"@", domain].concat().len();
+    let (front, rest) = text.split_at(text.len().min(length.saturating_sub(unfilled)));
+    let front: Vec<u8> = front.iter().flat_map(|&b| [b'\\', b]).collect();
+    [b"\"", &front[..], rest, b"\"@", domain].concat()
+}
+
+/// An address of about the longest length, in its local part, in its domain, by many segments, or by one record.
 fn long_address(random: &mut Random, table: &Sample) -> Vec<u8> {
-    let length = random.between(2044, 2053);
+    let edge = *random.pick(&[LIMIT, LIMIT, EARLIER_LIMIT]);
+    let length = random.between(edge - 1, edge + 1);
     let domain = domain(random, table);
     let room = length.saturating_sub(domain.len() + 1);
-    match random.below(4) {
+    match random.below(6) {
         0 => [vec![b'a'; room], domain].join(&b'@'),
         1 => [
             [b"\"", &vec![b' '; room.saturating_sub(2)][..], b"\""].concat(),
@@ -164,6 +186,7 @@ fn long_address(random: &mut Random, table: &Sample) -> Vec<u8> {
             let front = b"k.".repeat(room / 2);
             [b"a@", &front[..], &domain].concat()
         }
+        3 | 4 => filled_address(random, table, length),
         _ => {
             let text = [&b"/OU=x".repeat(room.saturating_sub(20) / 5)[..], b"/S="].concat();
             let rest = vec![b's'; room.saturating_sub(text.len() + 1)];
@@ -183,9 +206,10 @@ fn plausible(random: &mut Random, table: &Sample) -> Vec<u8> {
     for _ in 0..random.below(3) {
         domain = joined(&table.label(random), &domain);
     }
-    let text = match random.below(5) {
-        0 => random.pick(SPECIAL).to_vec(),
-        1 | 2 => name(random),
+    let text = match random.below(7) {
+        0 | 1 => random.pick(SPECIAL).to_vec(),
+        2 | 3 => name(random),
+        4 => odd_name(random),
         _ => local_text(random, table),
     };
     [local(random, &text), random.cased(&domain)].join(&b'@')
@@ -194,12 +218,12 @@ fn plausible(random: &mut Random, table: &Sample) -> Vec<u8> {
 /// An address of any kind.
 pub fn address(random: &mut Random, table: &Sample) -> Vec<u8> {
     match random.below(60) {
-        0 => long_address(random, table),
-        1 => noise(random, 200),
+        0 | 1 => long_address(random, table),
+        2 => noise(random, 200),
         // the coded form of `a..a@else.test` is its length and two more
-        2 => [vec![b'a'; random.between(113, 120)], b"else.test".to_vec()].join(&b'@'),
-        3 => [local(random, b"a"), domain(random, table), b"b".to_vec()].join(&b'@'),
-        4..=24 => plausible(random, table),
+        3 => [vec![b'a'; random.between(113, 120)], b"else.test".to_vec()].join(&b'@'),
+        4 => [local(random, b"a"), domain(random, table), b"b".to_vec()].join(&b'@'),
+        5..=25 => plausible(random, table),
         _ => {
             let text = unquoted(random, table);
             let domain = domain(random, table);

@@ -9,10 +9,11 @@ use plain::scratch::Scratch;
 use plain::table::Table;
 
 use crate::account::Account;
-use crate::addresses;
+use crate::addresses::{self, EARLIER_LIMIT};
+use crate::common_name_account::{count_address, count_back, count_record, is_named};
 use crate::damage::noise;
 use crate::lent::Lent;
-use crate::library;
+use crate::library::{self, ANSWER_ROOM};
 use crate::owned::written;
 use crate::random::Random;
 use crate::records;
@@ -30,7 +31,7 @@ pub fn room_about(random: &mut Random, length: usize) -> usize {
         2 => random.below(length + 1),
         3 => 0,
         4 | 5 => length,
-        _ => 2563,
+        _ => ANSWER_ROOM,
     }
 }
 
@@ -40,10 +41,10 @@ fn mapped(
     function: &'static str,
     call: library::Mapping,
     text: &[u8],
-    wanted: Wanted,
+    wanted: &Wanted,
 ) -> Compared {
     let room = room_about(&mut round.random, wanted.as_ref().map_or(20, Vec::len));
-    let (number, count, written) = match &wanted {
+    let (number, count, written) = match wanted {
         Ok(written) if written.len() <= room => (0, written.len(), &written[..]),
         Ok(_) => (6, 0, &b""[..]),
         Err((number, line)) => (*number, *line, &b""[..]),
@@ -78,26 +79,50 @@ fn settled_by(table: &Table, address: &[u8]) -> &'static str {
     }
 }
 
+/// Counts an address whose length is the limit, the earlier one, or next to either.
+fn count_length(account: &mut Account, length: usize, is_mapped: bool) {
+    let kinds = [
+        (length == EARLIER_LIMIT, "2,048 bytes"),
+        (length == EARLIER_LIMIT + 1, "2,049 bytes"),
+        (length == address::LIMIT - 1, "2,303 bytes"),
+        (length == address::LIMIT, "2,304 bytes"),
+        (length == address::LIMIT && is_mapped, "2,304 bytes, mapped"),
+        (length == address::LIMIT + 1, "2,305 bytes"),
+    ];
+    for (_, name) in kinds.iter().filter(|(holds, _)| *holds) {
+        account.count("address by length", name);
+    }
+}
+
+/// What the rules make of an address: the record's text, or the refusal.
+fn received(table: &Table, text: &[u8], account: &mut Account) -> Result<Vec<u8>, u8> {
+    let (mut scratch, mut record) = (Scratch::default(), Record::default());
+    let (result, clause) = mapping::to_record(table, text, &mut scratch, &mut record);
+    match (result, clause) {
+        (_, Some(clause)) => account.count_clause(clause, result.is_err()),
+        (Ok(()), None) => account.count("address mapped", settled_by(table, text)),
+        (Err(_), None) => {}
+    }
+    count_length(account, text.len(), result.is_ok() && clause.is_none());
+    count_address(account, text, &record, result, clause);
+    result.map(|()| written(&record, 0))
+}
+
+/// One call of address to record, by the library and by the rules.
+fn receive(round: &mut Round, account: &mut Account, text: &[u8]) -> Result<Wanted, String> {
+    let wanted = match &round.table {
+        Err(line) => Err((7, *line)),
+        Ok(table) => received(table, text, account).map_err(|number| (usize::from(number), 0)),
+    };
+    let function = round.name("to_record", "list_to_record");
+    mapped(round, account, function, library::to_record, text, &wanted)?;
+    Ok(wanted)
+}
+
 pub fn to_record(round: &mut Round, account: &mut Account) -> Compared {
     let text = addresses::address(&mut round.random, &round.sample);
     let text = round.spoiled(text);
-    let wanted = match &round.table {
-        Err(line) => Err((7, *line)),
-        Ok(table) => {
-            let (mut scratch, mut record) = (Scratch::default(), Record::default());
-            let (result, clause) = mapping::to_record(table, &text, &mut scratch, &mut record);
-            match (result, clause) {
-                (_, Some(clause)) => account.count_clause(clause, result.is_err()),
-                (Ok(()), None) => account.count("address mapped", settled_by(table, &text)),
-                (Err(_), None) => {}
-            }
-            result
-                .map(|()| written(&record, 0))
-                .map_err(|number| (usize::from(number), 0))
-        }
-    };
-    let function = round.name("to_record", "list_to_record");
-    mapped(round, account, function, library::to_record, &text, wanted)
+    receive(round, account, &text).map(|_| ())
 }
 
 fn sent_as(table: &Table, record: &Record, address: &[u8]) -> &'static str {
@@ -111,9 +136,13 @@ fn sent_as(table: &Table, record: &Record, address: &[u8]) -> &'static str {
 /// What the rules make of a record text: the record's address, or the refusal.
 fn sent(table: &Table, text: &[u8], account: &mut Account) -> Result<Vec<u8>, u8> {
     let (mut scratch, mut record) = (Scratch::default(), Record::default());
-    read_record(text, &mut scratch, &mut record).ok_or(4u8)?;
+    let read = read_record(text, &mut scratch, &mut record);
     let mut address = Vec::new();
-    mapping::to_address(table, &record, usize::MAX, &mut address)?;
+    let result = read
+        .ok_or(4)
+        .and_then(|()| mapping::to_address(table, &record, usize::MAX, &mut address));
+    count_record(account, table, text, read.map(|()| &record), result);
+    result?;
     account.count("record sent", sent_as(table, &record, &address));
     Ok(address)
 }
@@ -126,7 +155,20 @@ pub fn to_address(round: &mut Round, account: &mut Account) -> Compared {
         Ok(table) => sent(table, &text, account).map_err(|number| (usize::from(number), 0)),
     };
     let function = round.name("to_address", "list_to_address");
-    mapped(round, account, function, library::to_address, &text, wanted)
+    mapped(
+        round,
+        account,
+        function,
+        library::to_address,
+        &text,
+        &wanted,
+    )?;
+    // What a record with a common name went out as is read again.
+    if let (Ok(address), true) = (wanted, is_named(&text)) {
+        let back = receive(round, account, &address)?;
+        count_back(account, &text, back.as_deref().ok());
+    }
+    Ok(())
 }
 
 /// Whether this is the text of a canonical record, no carrier, that does not come back.
@@ -160,13 +202,17 @@ fn all_come_back(
             ));
         }
         account.came_back += 1;
+        if record.cn.is_some() {
+            account.count("CN under a sound table", "came back");
+        }
     }
     Ok(())
 }
 
 pub fn check(round: &mut Round, account: &mut Account) -> Compared {
     let function = round.name("check", "list_check");
-    let room = *round.random.pick(&[0, 1, 18, 26, 40, 2563, 2563, 2563]);
+    let rooms = [0, 1, 18, 26, 40, ANSWER_ROOM, ANSWER_ROOM, ANSWER_ROOM];
+    let room = *round.random.pick(&rooms);
     let mut lent = Lent::new(&mut round.random, room);
     let found = library::check(round.given(), lent.room());
     account.calls += 1;

@@ -120,6 +120,9 @@ mod exports {
     }
 }
 
+/// Room for any answer under a table: GATEWAY_ANSWER_ROOM of the header.
+pub const ANSWER_ROOM: usize = 2646;
+
 /// An entry of a list, as the library reads it.
 #[repr(C)]
 #[derive(Clone, Copy, Debug, PartialEq, Eq)]

@@ -114,7 +114,7 @@ fn count_taken(account: &mut Account, line: &[u8], found: &Mailbox) {
     kind(line.len() == mailbox::LIMIT, "line of 4,096 bytes");
     kind(
         found.address.len() > plain::address::LIMIT,
-        "address over 2,048 bytes",
+        "address over 2,304 bytes",
     );
 }
 

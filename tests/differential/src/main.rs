@@ -8,6 +8,8 @@
 mod account;
 mod addresses;
 mod calls;
+mod common_name_account;
+mod common_names;
 mod damage;
 mod dates;
 mod lent;

@@ -13,6 +13,7 @@ pub struct Owned {
     pub o: Value,
     /// The most significant first.
     pub units: Vec<Vec<u8>>,
+    pub cn: Value,
     pub s: Value,
     pub g: Value,
     pub i: Value,
@@ -45,6 +46,7 @@ impl Owned {
         for unit in &self.units {
             record.levels.add_unit(unit);
         }
+        record.cn = self.cn.as_deref();
         record.s = self.s.as_deref();
         record.g = self.g.as_deref();
         record.i = self.i.as_deref();
@@ -55,13 +57,13 @@ impl Owned {
         record
     }
 
-    /// Record text of the DDs, the name and the levels from `from` on.
+    /// Record text of the DDs, the names and the levels from `from` on.
     pub fn text(&self, from: usize) -> Vec<u8> {
         written(&self.lent(), from)
     }
 }
 
-/// Record text of the DDs, the name and the levels from `from` on.
+/// Record text of the DDs, the names and the levels from `from` on.
 pub fn written(record: &Record, from: usize) -> Vec<u8> {
     let mut text = Vec::new();
     write_text(record, from, &mut text);

@@ -4,6 +4,7 @@ use plain::address::code;
 use plain::levels::LEVELS;
 
 use crate::addresses::address;
+use crate::common_names::{common_name, odd_segments};
 use crate::damage::{damaged, noise};
 use crate::owned::Owned;
 use crate::random::Random;
@@ -47,7 +48,7 @@ const TYPES: &[&[u8]] = &[
 ];
 
 /// A value that keeps the rules of one with this bound.
-fn value(random: &mut Random, bound: usize) -> Vec<u8> {
+pub fn value(random: &mut Random, bound: usize) -> Vec<u8> {
     let length = match random.below(4) {
         0 => bound,
         1 => random.between(1, bound),
@@ -85,6 +86,17 @@ fn add_name(random: &mut Random, record: &mut Owned) {
     record.g = random.one_in(2).then(|| of(random, GIVEN, 16));
     record.i = random.one_in(3).then(|| of(random, INITIALS, 5));
     record.gq = random.one_in(8).then(|| value(random, 3));
+}
+
+/// A personal name, a common name, both or neither.
+fn add_names(random: &mut Random, record: &mut Owned) {
+    let kind = random.below(8);
+    if kind >= 2 {
+        add_name(random, record);
+    }
+    if (1..=2).contains(&kind) {
+        record.cn = Some(common_name(random));
+    }
 }
 
 fn add_dds(random: &mut Random, record: &mut Owned) {
@@ -131,17 +143,15 @@ fn add_levels(random: &mut Random, table: &Sample, record: &mut Owned) {
 pub fn record(random: &mut Random, table: &Sample) -> Owned {
     let mut record = Owned::default();
     add_levels(random, table, &mut record);
-    if !random.one_in(8) {
-        add_name(random, &mut record);
-    }
-    if record.s.is_none() || random.one_in(6) {
+    add_names(random, &mut record);
+    if (record.s.is_none() && record.cn.is_none()) || random.one_in(6) {
         add_dds(random, &mut record);
     }
     record
 }
 
 /// A record with the longest values that the bounds allow, each of which is written with `$` throughout.
-fn longest(random: &mut Random) -> Owned {
+pub fn longest(random: &mut Random) -> Owned {
     let of = |n: usize| Some(vec![b'/'; n]);
     Owned {
         c: Some(b"XY".to_vec()),
@@ -149,6 +159,7 @@ fn longest(random: &mut Random) -> Owned {
         prmd: of(16),
         o: of(64),
         units: vec![vec![b'='; 32]; random.between(3, 4)],
+        cn: of(64),
         s: of(40),
         g: of(16),
         i: of(5),
@@ -190,13 +201,14 @@ fn carrier(random: &mut Random, table: &Sample) -> Owned {
         0 => add_name(random, &mut record),
         1 => record.dds.push((b"RFC-822".to_vec(), b"x".to_vec())),
         2 => record.units.push(b"u".to_vec()),
+        3 => record.cn = Some(common_name(random)),
         _ => {}
     }
     record
 }
 
 /// One `/key=value`, with `$` before `/` and `=` and anywhere else it may stand.
-fn segment(random: &mut Random, key: &[u8], value: &[u8]) -> Vec<u8> {
+pub fn segment(random: &mut Random, key: &[u8], value: &[u8]) -> Vec<u8> {
     let loose = random.one_in(6);
     let mut out = [b"/", &random.cased(key)[..], b"="].concat();
     for &b in value {
@@ -287,9 +299,16 @@ fn rearranged(random: &mut Random, text: &[u8]) -> Vec<u8> {
     [segments.concat(), b"/".to_vec()].concat()
 }
 
+/// Segments that name a common name and are odd, and the levels of a record behind them.
+fn odd_name_text(random: &mut Random, table: &Sample) -> Vec<u8> {
+    let mut record = Owned::default();
+    add_levels(random, table, &mut record);
+    [odd_segments(random), record.text(0)].concat()
+}
+
 /// A record text of any kind.
 pub fn record_text(random: &mut Random, table: &Sample) -> Vec<u8> {
-    let text = match random.below(20) {
+    let text = match random.below(22) {
         0..=9 => record(random, table).text(0),
         10..=14 => carrier(random, table).text(0),
         15 => longest(random).text(0),
@@ -300,6 +319,7 @@ pub fn record_text(random: &mut Random, table: &Sample) -> Vec<u8> {
         ]
         .concat(),
         18 => noise(random, 300),
+        19 | 20 => odd_name_text(random, table),
         _ => {
             let from = random.below(LEVELS);
             record(random, table).text(from)
@@ -311,12 +331,10 @@ pub fn record_text(random: &mut Random, table: &Sample) -> Vec<u8> {
     text
 }
 
-/// What a local part may name beside the levels that its domain settles: a name, units, DDs.
+/// What a local part may name beside the levels that its domain settles: names, units, DDs.
 pub fn local_text(random: &mut Random, table: &Sample) -> Vec<u8> {
     let mut record = Owned::default();
-    if !random.one_in(6) {
-        add_name(random, &mut record);
-    }
+    add_names(random, &mut record);
     if random.one_in(4) {
         add_dds(random, &mut record);
     }

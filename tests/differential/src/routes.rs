@@ -9,12 +9,9 @@ use crate::account::Account;
 use crate::addresses::address;
 use crate::damage::noise;
 use crate::lent::Lent;
-use crate::library;
+use crate::library::{self, ANSWER_ROOM};
 use crate::records::record_text;
 use crate::round::{hex, Compared, Round};
-
-/// Room for any answer.
-const ANSWER_ROOM: usize = 2563;
 
 fn line(round: &mut Round) -> Vec<u8> {
     let random = &mut round.random;

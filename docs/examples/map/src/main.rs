@@ -10,7 +10,7 @@ use map::{check, to_address, to_record, Refusal, Verdict};
 fn in_words(refusal: Refusal) -> String {
     match refusal {
         Refusal::NoAddress => "not an address of the form local-part@domain".to_string(),
-        Refusal::LongAddress => "an address over 2,048 bytes".to_string(),
+        Refusal::LongAddress => "an address over 2,304 bytes".to_string(),
         Refusal::LongCarried => {
             "it would have to be carried whole, and is too long for that".to_string()
         }
