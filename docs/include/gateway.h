@@ -76,7 +76,7 @@ extern "C" {
 
 /* Room for any answer under a table: no text that a function with a table or a list writes at once, with the number, tab and LF
    of gateway_route, is longer. */
-#define GATEWAY_ANSWER_ROOM 2646
+#define GATEWAY_ANSWER_ROOM 2126
 
 /* Room for any date, in either form. */
 #define GATEWAY_DATE_ROOM 24

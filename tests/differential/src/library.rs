@@ -121,7 +121,7 @@ mod exports {
 }
 
 /// Room for any answer under a table: GATEWAY_ANSWER_ROOM of the header.
-pub const ANSWER_ROOM: usize = 2646;
+pub const ANSWER_ROOM: usize = 2126;
 
 /// An entry of a list, as the library reads it.
 #[repr(C)]

@@ -122,7 +122,7 @@ mod exports {
 }
 
 /// Room for any answer under a table.
-pub const ANSWER_ROOM: usize = 2646;
+pub const ANSWER_ROOM: usize = 2126;
 
 /// Room for any date, in either form.
 pub const DATE_ROOM: usize = 24;
