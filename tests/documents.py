@@ -6,7 +6,10 @@ Read are README.md and docs/*.md but docs/CHANGES.md, which names what went as w
 - `crate/edit`, without an ending, is that crate's must-fail edit;
 - names behind a path, or before the word "of" and a path or a crate, are declared in that file or below that folder;
 - any other name is declared somewhere, or is one of WORDS: names of mail, of X.400 and of the shell, which nothing here declares.
-What is not a name or a path (addresses, record text, commands) is passed over. The last line counts what was checked.
+What is not a name or a path (addresses, record text, commands) is passed over.
+
+The limits that files outside the proofs repeat, the header's among them, are those that the page of promises has. The last line counts what was
+checked.
 """
 
 import re
@@ -23,6 +26,19 @@ WORDS = set(
     cargo python3 valgrind pv parallel requires ensures search spec read_full i32 u64 usize bool stdin stdout
     """.split()
 )
+
+# Limits of the page of promises, and where they stand again.
+PAGE = "crates/gateway/specs/Promises.antt"
+LIMITS = [
+    ("answerRoom", "docs/include/gateway.h", r"GATEWAY_ANSWER_ROOM (\d+)"),
+    ("answerRoom", "docs/examples/map/src/lib.rs", r"ANSWER_ROOM: usize = (\d+)"),
+    ("answerRoom", "tests/differential/src/library.rs", r"ANSWER_ROOM: usize = (\d+)"),
+    ("answerRoom", "README.md", r"lend ([\d,]+) bytes"),
+    ("longestAddress", "docs/include/gateway.h", r"address is over ([\d,]+) bytes"),
+    ("longestAddress", "docs/src/address.rs", r"LIMIT: usize = (\d+)"),
+    ("longestAddress", "tests/rules.py", r"LONGEST_ADDRESS = (\d+)"),
+    ("longestAddress", "README.md", r"address is over ([\d,]+) bytes"),
+]
 
 NAME = re.compile(r"[A-Za-z_][A-Za-z0-9_'·-]*$")
 DECLARED = {
@@ -149,15 +165,27 @@ def paragraphs(text):
             block.append(line.strip())
 
 
+def check_limits(wrong):
+    """Checks that each limit is the page's wherever it stands again, and returns how many places there are."""
+    page = (TOP / PAGE).read_text()
+    for name, path, pattern in LIMITS:
+        proved = re.findall(rf"\b{name} ≡ (\d+)", page)
+        found = [number.replace(",", "") for number in re.findall(pattern, (TOP / path).read_text())]
+        if len(proved) != 1 or not found or set(found) != set(proved):
+            wrong.append(f"{path}: {name} is {found}, and the page has {proved}")
+    return len(LIMITS)
+
+
 def main():
-    wrong, count = [], 0
+    wrong = []
+    count = check_limits(wrong)
     for document in [TOP / "README.md", *sorted((TOP / "docs").glob("*.md"))]:
         if document.name != "CHANGES.md":
             for number, block in paragraphs(document.read_text()):
                 count += check(f"{document.relative_to(TOP)}:{number}", block, wrong)
     for line in wrong:
         print(line)
-    print(f"documents: {count} names and paths, {len(wrong)} wrong")
+    print(f"documents: {count} names, paths and limits, {len(wrong)} wrong")
     return 1 if wrong or count == 0 else 0
 
 

@@ -7,6 +7,7 @@ use mathlib.Core.List.{List, [], _∷_}
 use mathlib.Core.Option.{Option, none, some}
 use lib.ListN.{length, drop}
 use Rattle.chars.specs.Lists.{all, nonEmpty}
+use Rattle.oraddr.specs.Bounds.{ownLevels}
 use Rattle.chars.specs.Case.{sameText}
 use Rattle.oraddr.specs.Attributes.{Attributes, Dd, levels}
 use Rattle.oraddr.specs.Canonical.{canonicalRecord}
@@ -31,10 +32,10 @@ unfoldable pub hasLevels : List Token → List Token → Bool
 unfolding beginsBy sameText all nonEmpty
 hasLevels path ls = begins path ls && all (λ l. not (nonEmpty l)) (drop (length path) ls)
 
--- "no name": neither S nor G, I or GQ, which stand behind the levels
+-- "no name": neither S nor G, I or GQ; request 12: "A carrier has no common name." They stand behind the levels.
 unfoldable pub isNameless : Attributes → Bool
 unfolding all nonEmpty
-isNameless a = all (λ s. not (nonEmpty s)) (drop 4 (a .single))
+isNameless a = all (λ s. not (nonEmpty s)) (drop ownLevels (a .single))
 
 -- "and one DD of type RFC-822"
 unfoldable pub isOneCarrier : List Dd → Bool

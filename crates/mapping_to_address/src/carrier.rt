@@ -43,7 +43,7 @@ fn has_levels(text: &[u8], row: Row, flat: &[u8], ends: &[usize]) -> bool
     ends[k] == ends[LEVELS]
 }
 
-// Whether a record has no S, G, I or GQ.
+// Whether a record has no CN, S, G, I or GQ.
 fn is_nameless(rec: Record) -> bool
     ensures { λ r. ⌜ r ≡ isNameless (view rec) ⌝ }
 {

@@ -139,7 +139,8 @@ fn has(rec: Record, k: usize) -> bool
 fn has_names_with_surname(rec: Record) -> bool
     ensures { λ r. ⌜ r ≡ namesWithSurname (view rec) ⌝ }
 {
-    if has(rec, S) {
+    let surname = has(rec, S);
+    if surname {
         return true;
     }
     if has(rec, G) {

@@ -7,6 +7,7 @@ use crate::search::find;
 use chars::case::same_text;
 use chars::write::put;
 use oraddr::bounds::LEVELS;
+use oraddr::bounds::VALUE_ROOM;
 use table::rows::Key;
 ghost use mathlib.Core.Path.{_≡_};
 ghost use mathlib.Core.Bool.{cond};
@@ -23,7 +24,7 @@ ghost use Rattle.table_lookup.specs.Lookup.{begins, byDomain, byPath};
 ghost use Rattle.table_lookup.specs.Looked.{Ended, KindInside, Laid, Looked, isReached, levelTokens, tabbed, tokensFrom};
 
 // Room for a record's levels as a path, a tab before each.
-const QUERY_ROOM: usize = 520;
+const QUERY_ROOM: usize = LEVELS * (VALUE_ROOM + 1);
 
 // Whether a row's domain, from `a` to `b` in the table text, is a tail of a domain by whole parts.
 pub fn is_tail(text: &[u8], a: usize, b: usize, domain: &[u8]) -> bool

@@ -31,6 +31,19 @@ module _ {A : Type 0} where
   drop-take (suc i) (suc j) [] = sym (take-nil (suc j - suc i))
   drop-take (suc i) (suc j) (x ∷ s) = drop-take i j s ∙ take-same (j - i) (suc j - suc i) (drop i s) (omega arith)
 
+  -- n elements of a list from the ith on, by their places
+  unfoldable pub elements : List A → A → ℕ → ℕ → List A
+  elements s d i zero = []
+  elements s d i (suc n) = getD s i d ∷ elements s d (suc i) n
+
+  pub elements-taken : (s : List A) (d : A) (i n : ℕ) → i + n ≤ length s → take n (drop i s) ≡ elements s d i n
+  unfolding elements
+  elements-taken s d i zero h = refl
+  elements-taken s d i (suc n) h = rw (drop-cons s i d (omega arith), elements-taken s d (suc i) n (omega arith))
+
+  pub elements-all : (s : List A) (d : A) (i n : ℕ) → length s ≡ i + n → drop i s ≡ elements s d i n
+  elements-all s d i n h = sym (take-all n (drop i s) (omega (arith, length-drop i s))) ∙ elements-taken s d i n (omega arith)
+
   -- the rest of a text, as a part of it
   pub rest-of : (n : ℕ) (s : List A) → take (length s - n) (drop n s) ≡ drop n s
   rest-of n s = take-all (length s - n) (drop n s) (omega (arith, length-drop n s))

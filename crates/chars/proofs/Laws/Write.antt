@@ -1,6 +1,6 @@
 -- Laws of text written into a buffer: two writes in a row are one, a write keeps the length, and what the buffer then holds.
 -- Assumes nothing.
-use mathlib.Core.Path.{_≡_, refl, sym, ap, _∙_}
+use mathlib.Core.Path.{_≡_, refl, sym, ap, subst, _∙_}
 use Prim.Native.Nat.{ℕ, zero, suc, _+_, _-_, _≤_, _<_}
 use native.Mathlib.Nat.{add-zero, add-suc, suc-add, zero-add}
 use native.Mathlib.Numerals.{add-one}
@@ -56,6 +56,10 @@ wrote-then {o} {m} {n} {s} {t} {i} {j} {k} a b = record {
   moved = omega (arith, a .moved, b .moved, length-append s t);
   holds = b .holds ∙ rw (a .holds, a .moved) (sets-append o i s t);
 }
+
+-- a write of a text is one of an equal text
+pub wrote-as : {o n : List ℕ} {i j : ℕ} (s t : List ℕ) → s ≡ t → Wrote o i s j n → Wrote o i t j n
+wrote-as {o} {n} {i} {j} s t e w = subst (λ (u : List ℕ). Wrote o i u j n) e w
 
 pub wrote-length : {o n s : List ℕ} {i j : ℕ} → Wrote o i s j n → length n ≡ length o
 wrote-length {o} {n} {s} {i} w = ap length (w .holds) ∙ length-sets o i s

@@ -1,13 +1,12 @@
 -- Laws of writing dates.
 -- Assumes nothing.
-use mathlib.Core.Path.{_≡_, refl, subst}
+use mathlib.Core.Path.{_≡_, refl}
 use mathlib.Core.Bool.{true}
-use mathlib.Core.List.{List, [], _∷_, _++_}
+use mathlib.Core.List.{[], _∷_, _++_}
 use Prim.Native.Nat.{ℕ, _≤_}
 use native.Mathlib.Omega.{arith}
 use lib.IntN.{ℤ}
 use lib.ListN.{length, length-append}
-use Rattle.chars.specs.Write.{Wrote}
 use Rattle.dates.specs.Write.{dateSecondText, two, utcSecondText, zoneText}
 use Rattle.date_read.specs.Date.{isDate}
 use Rattle.date_read.specs.declared.date.DateTime.{DateTime}
@@ -15,10 +14,6 @@ use Rattle.date_read.specs.declared.date.Second.{Second}
 use Rattle.date_read.specs.declared.date.Second.the-variants.{At, Absent}
 use Rattle.dates.proofs.Laws.Bounds.{bounds}
 use Rattle.dates.proofs.Laws.Month.{month-length, nameOf}
-
--- a write of a text is one of an equal text
-pub wrote-as : {o n : List ℕ} {i j : ℕ} (s t : List ℕ) → s ≡ t → Wrote o i s j n → Wrote o i t j n
-wrote-as {o} {n} {i} {j} s t e w = subst (λ (u : List ℕ). Wrote o i u j n) e w
 
 pub two-length : (n : ℕ) → length (two n) ≡ 2
 unfolding two

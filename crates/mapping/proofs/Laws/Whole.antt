@@ -9,11 +9,11 @@ use Prim.Native.Nat.{ℕ, zero, suc, _+_, _≤_, _<_}
 use native.Mathlib.Omega.{arith}
 use borrow.Author.Tests.{eqb-false, eqb-true, leb-true, ltb-false, ltb-true, not-true}
 use lib.Dec.{eqb, leb, ltb}
-use lib.ListN.{length, getD, set, drop, take, drop-of-length-le, length-map, length-set}
-use lib.Seq.{drop-cons, getD-set-other}
+use lib.ListN.{length, getD, set, take, length-map, length-set}
+use lib.Seq.{getD-set-other}
 use Rattle.chars.specs.Lists.{all, nonEmpty}
 use Rattle.chars.proofs.Laws.Lists.{and-both, and-left, and-right, and-three, by-test, true-not-false}
-use Rattle.chars.proofs.Laws.Seq.{no-length}
+use Rattle.chars.proofs.Laws.Seq.{elements, elements-all, no-length}
 use Rattle.oraddr.specs.Add.{Outcome, addDd, addSingle, addUnit, outcome, setSingle}
 use Rattle.oraddr.specs.Attributes.{Attributes, Dd, singleOf}
 use Rattle.oraddr.specs.Bounds.{ADMD, C, CN, G, GQ, I, O, OU, PRMD, S, boundOf, most, rule, singleCount}
@@ -184,20 +184,8 @@ module _ (a : Attributes) (r : Record) (m : Made r) (h : addAll a r .number ≡ 
 
 singles-are : {A : Type 0} (s : List A) (d : A) → length s ≡ singleCount
     → s ≡ getD s C d ∷ getD s ADMD d ∷ getD s PRMD d ∷ getD s O d ∷ getD s CN d ∷ getD s S d ∷ getD s G d ∷ getD s I d ∷ getD s GQ d ∷ []
-singles-are s d l =
-    let after : (k : ℕ) → k < singleCount → drop k s ≡ getD s k d ∷ drop (suc k) s = λ k h. drop-cons s k d (omega arith) in
-    after C (omega arith)
-    ∙ rw (
-      after ADMD (omega arith),
-      after PRMD (omega arith),
-      after O (omega arith),
-      after CN (omega arith),
-      after S (omega arith),
-      after G (omega arith),
-      after I (omega arith),
-      after GQ (omega arith),
-      drop-of-length-le s {i = singleCount} (omega arith),
-    )
+unfolding elements
+singles-are s d l = elements-all s d 0 singleCount l
 
 length-single : (r : Record) → Made r → length (view r .single) ≡ singleCount
 unfolding view singlesView

@@ -1,7 +1,7 @@
 -- What the places held come to once all is read: what the segments name, added to a record; and a text read as far as a place.
 -- Assumes nothing.
 use mathlib.Core.Path.{_≡_, refl, sym, ap, _∙_}
-use Prim.Native.Nat.{ℕ, suc, _+_, _≤_, _<_}
+use Prim.Native.Nat.{ℕ, _+_, _≤_, _<_}
 use native.Mathlib.Omega.{arith}
 use mathlib.Core.Bool.{Bool, true, false, not, _||_, cond}
 use mathlib.Core.List.{List, [], _∷_, _++_, append-nil, map, reverse}
@@ -9,8 +9,9 @@ use mathlib.Core.Option.{Option, none, some}
 use borrow.Author.Tests.{eqb-true, eqb-false, ne-eqb, not-false}
 use lib.Dec.{eqb, leb}
 use lib.ListN.{length, take, drop, getD, drop-of-length-le}
-use lib.Seq.{append-snoc, drop-cons}
+use lib.Seq.{append-snoc}
 use Rattle.chars.specs.Lists.{all, nonEmpty}
+use Rattle.chars.proofs.Laws.Seq.{elements, elements-taken}
 use Rattle.chars.proofs.Laws.Lists.{and-both, by-test, or-left, or-right, true-not-false}
 use Rattle.oraddr.specs.Bounds.{ADMD, C, CN, G, GQ, I, O, PRMD, S, singleCount}
 use Rattle.oraddr.specs.Add.{Outcome}
@@ -35,23 +36,10 @@ use Rattle.ortext_read.proofs.Laws.Held.{Once, Places, Fair, Held, held
 
 -- ---- the attributes that stand once
 
-take-next : {A : Type 0} (l : List A) (d : A) (k n : ℕ) → k + suc n ≤ length l → take (suc n) (drop k l) ≡ getD l k d ∷ take n (drop (suc k) l)
-take-next l d k n h = rw (drop-cons l k d (omega arith))
-
 take-singles : {A : Type 0} (l : List A) (d : A) → singleCount ≤ length l
     → take singleCount l ≡ getD l C d ∷ getD l ADMD d ∷ getD l PRMD d ∷ getD l O d ∷ getD l CN d ∷ getD l S d ∷ getD l G d ∷ getD l I d ∷ getD l GQ d ∷ []
-take-singles l d h =
-    rw (
-      take-next l d 0 8 h,
-      take-next l d 1 7 h,
-      take-next l d 2 6 h,
-      take-next l d 3 5 h,
-      take-next l d 4 4 h,
-      take-next l d 5 3 h,
-      take-next l d 6 2 h,
-      take-next l d 7 1 h,
-      take-next l d 8 0 h,
-    )
+unfolding elements
+take-singles l d h = elements-taken l d 0 singleCount h
 
 single-once : (k : ℕ) → k < singleCount → Once k
 single-once k h = record { low = omega arith; no-unit = λ e. omega arith; no-dd = λ e. omega arith }

@@ -9,9 +9,9 @@ use native.Mathlib.Nat.{le-of-suc-le-suc, not-suc-le-zero}
 use native.Mathlib.Omega.{arith}
 use borrow.Author.Tests.{eq-eqb, leb-true, leb-false, ltb-true, not-true}
 use lib.Dec.{leb}
-use lib.ListN.{length, getD, take, drop, replicate, length-drop, length-replicate, length-take, take-append-drop, drop-of-length-le, getD-replicate, List·getD-eq-default}
-use lib.Seq.{drop-cons, drop-nil, take-append-le, take-nil, take-take, drop-at, length-take-le}
-use Rattle.chars.proofs.Laws.Seq.{absent-is, drop-take, take-same}
+use lib.ListN.{length, getD, take, drop, replicate, length-drop, length-replicate, length-take, take-append-drop, getD-replicate, List·getD-eq-default}
+use lib.Seq.{drop-nil, take-append-le, take-nil, take-take, drop-at, length-take-le}
+use Rattle.chars.proofs.Laws.Seq.{absent-is, drop-take, elements, elements-all, take-same}
 use Rattle.chars.specs.Lists.{all, nonEmpty}
 use Rattle.chars.specs.Case.{agree, sameText}
 use Rattle.chars.proofs.Laws.Lists.{all-drop, and-both, and-left, and-right, and-three, by-test, true-not-false}
@@ -257,15 +257,8 @@ short-no-gq m gq h =
     absent-is gq (by-test (nonEmpty gq) (λ e. true-not-false true refl (sym (rw (e, and-false) at h))) (λ e. e))
 
 behind-levels : (s : List (List ℕ)) → length s ≡ singleCount → drop ownLevels s ≡ getD s CN [] ∷ getD s S [] ∷ getD s G [] ∷ getD s I [] ∷ getD s GQ [] ∷ []
-behind-levels s l =
-    rw (
-      drop-cons s CN [] (omega arith),
-      drop-cons s S [] (omega arith),
-      drop-cons s G [] (omega arith),
-      drop-cons s I [] (omega arith),
-      drop-cons s GQ [] (omega arith),
-      drop-of-length-le s {i = singleCount} (omega arith),
-    )
+unfolding elements
+behind-levels s l = elements-all s [] ownLevels (singleCount - ownLevels) l
 
 -- where only a name is left and it is short, the name says all
 only-name : (b : Attributes) → length (b .single) ≡ singleCount → writesShort b ≡ true → nameAlone (nameIn b) ≡ b

@@ -9,9 +9,9 @@ use native.Mathlib.Nat.{le-of-suc-le-suc, not-suc-le-zero}
 use native.Mathlib.Omega.{arith}
 use borrow.Author.Tests.{eqb-true, eqb-false, le-leb, leb-true, ltb-false, lt-ltb, le-ltb, ltb-true, ne-eqb, not-true}
 use lib.Dec.{eqb, leb, ltb}
-use lib.ListN.{length, drop, getD, replicate, length-append, length-drop, drop-of-length-le, List·getD-eq-default}
-use lib.Seq.{drop-cons, getD-drop}
-use Rattle.chars.proofs.Laws.Seq.{absent-is}
+use lib.ListN.{length, drop, getD, replicate, length-append, length-drop, List·getD-eq-default}
+use lib.Seq.{getD-drop}
+use Rattle.chars.proofs.Laws.Seq.{absent-is, elements, elements-all}
 use Rattle.chars.specs.Lists.{all, bytes, member, nonEmpty}
 use Rattle.chars.specs.Class.{between, isDigit, isLabelChar, isLetter, isPrintable}
 use Rattle.chars.specs.Case.{agree, foldCase, sameByte, sameText}
@@ -353,16 +353,6 @@ unfolding one nonEmpty all
 one-value [] = (refl, refl, refl)
 one-value (x ∷ v) = (refl, refl, refl)
 
--- n elements of a list from the ith on, which are all that there are
-unfoldable elements : List (List ℕ) → ℕ → ℕ → List (List ℕ)
-elements s i zero = []
-elements s i (suc n) = getD s i [] ∷ elements s (suc i) n
-
-listed : (s : List (List ℕ)) (i n : ℕ) → length s ≡ i + n → drop i s ≡ elements s i n
-unfolding elements
-listed s i zero h = drop-of-length-le s {i = i} (omega arith)
-listed s i (suc n) h = rw (drop-cons s i [] (omega arith), listed s (suc i) n (omega arith))
-
 some-values : (k : ℕ) (gs : List Segment) → nonEmpty (valuesAt k gs) ≡ true → nonEmpty gs ≡ true
 unfolding valuesAt nonEmpty
 some-values k [] h = h
@@ -469,7 +459,7 @@ module _ (a : Attributes) where
         reverse-reverse (a .units),
         dds-in,
       )
-      (ap (λ (ss : List (List ℕ)). some (record { single = ss; units = a .units; dds = a .dds })) (sym (listed (a .single) 0 singleCount l)))
+      (ap (λ (ss : List (List ℕ)). some (record { single = ss; units = a .units; dds = a .dds })) (sym (elements-all (a .single) [] 0 singleCount l)))
 
 pub named-written : (ks : Keys) (a : Attributes) → length (a .single) ≡ singleCount → named (map (spelled ks) (segmentsIn a order)) ≡ some (spelledAttributes ks a)
 unfolding spelledAttributes

@@ -1,6 +1,6 @@
 -- Laws of a line's answer: what the answers of the readers and of the mappings come to as a line of output.
 -- Assumes nothing.
-use mathlib.Core.Path.{_≡_, refl, sym, ap, subst, _∙_}
+use mathlib.Core.Path.{_≡_, refl, sym, ap, _∙_}
 use mathlib.Core.Bool.{true, false, cond}
 use mathlib.Core.List.{List, [], _∷_, _++_}
 use mathlib.Core.Option.{Option, none, some}
@@ -47,10 +47,6 @@ use Rattle.mapping.proofs.Laws.Route.{address-under}
 use Rattle.mapping.proofs.Laws.Short.{address-most}
 use Rattle.mapping.proofs.Laws.Whole.{text-places}
 use Rattle.router_line.specs.Line.{answerRoom, doneLine, lineAnswer, longestLine, readLine, recordLine, refusedLine, sentLine, taggedLine, textAt, textLine}
-
--- a write of a text is one of an equal text
-pub wrote-as : {o n : List ℕ} {i j : ℕ} (s t : List ℕ) → s ≡ t → Wrote o i s j n → Wrote o i t j n
-wrote-as {o} {n} {i} {j} s t e w = subst (λ (u : List ℕ). Wrote o i u j n) e w
 
 -- an address that was written to the front of a part, behind the place of its number and tab, and the line put together over it
 pub done-over : (k : ℕ) {o p new : List ℕ} {n j : ℕ} → Wrote (take k (drop textAt o)) 0 (take n p) n p → n ≤ length p → textAt ≤ length o

@@ -38,11 +38,6 @@ module _ (s : List ℕ) (at end next : ℕ) where
   level-here Omitted h l = l
   level-here NotReached h l = true-not-false true refl (sym h)
 
-  pub level-found : (kind : LevelKind) → at ≤ end → Levelled s at end next kind → LevelFound s at end next kind
-  level-found (Named p) h l = l .found
-  level-found Omitted h l = l
-  level-found NotReached h l = absurd (omega (arith, l .past))
-
   pub level-inside : (kind : LevelKind) → end ≤ length s → Levelled s at end next kind → KindInside s kind
   level-inside (Named p) h l = omega (arith, l .ends, l .found .within)
   level-inside Omitted h l = tt

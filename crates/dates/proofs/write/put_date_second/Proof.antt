@@ -2,9 +2,8 @@
 -- Assumes nothing.
 use mathlib.Core.List.{_∷_}
 use mathlib.Core.Path.{sym, ap}
-use Rattle.chars.proofs.Laws.Write.{wrote-nothing}
+use Rattle.chars.proofs.Laws.Write.{wrote-as, wrote-nothing}
 use Rattle.dates.specs.Write.{dateSecondText, two}
-use Rattle.dates.proofs.Laws.Written.{wrote-as}
 use borrow.Author.Needs.{needs}
 use Rattle.dates.proofs.write.put_date_second.Statement.{statement}
 use Rattle.dates.proofs.write.put_date_second.Tie as tie

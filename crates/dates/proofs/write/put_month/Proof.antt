@@ -5,8 +5,8 @@ use mathlib.Core.List.{List}
 use Prim.Native.Nat.{ℕ, _-_, _*_}
 use native.Mathlib.Omega.{arith}
 use lib.ListN.{length, take, drop}
+use Rattle.chars.proofs.Laws.Write.{wrote-as}
 use Rattle.dates.proofs.Laws.Month.{month-length, month-letters, nameOf}
-use Rattle.dates.proofs.Laws.Written.{wrote-as}
 use borrow.Author.Needs.{needs}
 use Rattle.dates.proofs.write.put_month.Statement.{statement}
 use Rattle.dates.proofs.write.put_month.Tie as tie

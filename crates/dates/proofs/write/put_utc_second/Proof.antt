@@ -1,9 +1,8 @@
 -- `dates::write::put_utc_second` meets its contract.
 -- Assumes nothing.
 use mathlib.Core.Path.{sym, ap}
-use Rattle.chars.proofs.Laws.Write.{wrote-nothing}
+use Rattle.chars.proofs.Laws.Write.{wrote-as, wrote-nothing}
 use Rattle.dates.specs.Write.{two, utcSecondText}
-use Rattle.dates.proofs.Laws.Written.{wrote-as}
 use borrow.Author.Needs.{needs}
 use Rattle.dates.proofs.write.put_utc_second.Statement.{statement}
 use Rattle.dates.proofs.write.put_utc_second.Tie as tie

@@ -5,11 +5,11 @@ use mathlib.Core.List.{_∷_, _++_}
 use Prim.Native.Nat.{_/_, _%_, _+_, _≤_}
 use native.Mathlib.Omega.{arith}
 use lib.IntN.{ℤ, natAbs}
-use Rattle.chars.proofs.Laws.Write.{wrote-length, wrote-then}
+use Rattle.chars.proofs.Laws.Write.{wrote-as, wrote-length, wrote-then}
 use Rattle.date_read.specs.Date.{mostOffset}
 use Rattle.dates.specs.Write.{signOf, two, zoneText}
 use Rattle.dates.proofs.Laws.Offset.{plain, quot-abs, quot-fits, quot-plain, quot-small, rem-abs, rem-plain, rem-small}
-use Rattle.dates.proofs.Laws.Written.{two-length, wrote-as}
+use Rattle.dates.proofs.Laws.Written.{two-length}
 use borrow.Author.Needs.{needs}
 use Rattle.dates.proofs.write.put_zone.Statement.{statement}
 use Rattle.dates.proofs.write.put_zone.Tie as tie

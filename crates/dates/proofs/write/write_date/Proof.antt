@@ -8,13 +8,13 @@ use lib.IntN.{ℤ, natAbs}
 use lib.ListN.{getD}
 use mir.Syntax.{w32}
 use mir.Val.{ofZ, toZ}
-use Rattle.chars.proofs.Laws.Write.{wrote-length, wrote-then}
+use Rattle.chars.proofs.Laws.Write.{wrote-as, wrote-length, wrote-then}
 use Rattle.date_read.specs.Date.{mostOffset}
 use Rattle.date_read.specs.Read.{monthNames}
 use Rattle.dates.specs.Write.{dateSecondText, dateText, two, zoneText}
 use Rattle.dates.proofs.Laws.Bounds.{bounds}
 use Rattle.dates.proofs.Laws.Offset.{plain}
-use Rattle.dates.proofs.Laws.Written.{behind-length, date-day-length, date-second-length, wrote-as}
+use Rattle.dates.proofs.Laws.Written.{behind-length, date-day-length, date-second-length}
 use borrow.Author.Needs.{needs}
 use Rattle.dates.proofs.write.write_date.Statement.{statement}
 use Rattle.dates.proofs.write.write_date.Tie as tie

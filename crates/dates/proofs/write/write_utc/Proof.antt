@@ -4,12 +4,12 @@ use native.Mathlib.Omega.{arith}
 use Prim.Native.Nat.{_≤_}
 use mathlib.Core.Path.{sym, subst, ap}
 use lib.IntN.{ℤ, natAbs}
-use Rattle.chars.proofs.Laws.Write.{wrote-length, wrote-then}
+use Rattle.chars.proofs.Laws.Write.{wrote-as, wrote-length, wrote-then}
 use Rattle.date_read.specs.Date.{mostOffset}
 use Rattle.dates.specs.Write.{two, utcText, zoneText, utcSecondText}
 use Rattle.dates.proofs.Laws.Bounds.{bounds}
 use Rattle.dates.proofs.Laws.Offset.{plain}
-use Rattle.dates.proofs.Laws.Written.{two-length, utc-day-length, utc-second-length, wrote-as}
+use Rattle.dates.proofs.Laws.Written.{two-length, utc-day-length, utc-second-length}
 use mathlib.Core.List.{_++_}
 use mir.Syntax.{w32}
 use mir.Val.{ofZ, toZ}

@@ -1,13 +1,13 @@
 -- `router_line::line::answer_address` meets its contract.
 -- Assumes nothing.
 use mathlib.Core.Path.{sym, ap}
+use Rattle.chars.proofs.Laws.Write.{wrote-as}
 use Rattle.table_load.specs.Load.{loadAnswer}
 use Rattle.table.specs.Rows.{tableAt}
 use Rattle.table.specs.declared.load.TableRead.{TableRead}
 use Rattle.mapping.specs.Results.{malformedRecord}
 use Rattle.mapping.specs.ToRecord.{toRecord, toRecordBy}
 use Rattle.router_line.specs.Line.{recordLine, refusedLine}
-use Rattle.router_line.proofs.Laws.Line.{wrote-as}
 use borrow.Author.Needs.{needs}
 use Rattle.router_line.proofs.line.answer_address.Statement.{statement}
 use Rattle.router_line.proofs.line.answer_address.Tie as tie

@@ -2,9 +2,10 @@
 -- Assumes nothing.
 use native.Mathlib.Omega.{arith}
 use lib.ListN.{drop, getD, length, take, length-drop}
+use Rattle.chars.proofs.Laws.Write.{wrote-as}
 use Rattle.table_load.specs.Load.{loadAnswer}
 use Rattle.router_line.specs.Line.{lineAnswer, refusedLine, taggedLine}
-use Rattle.router_line.proofs.Laws.Line.{line-over, line-short, line-tagged, line-untabbed, wrote-as}
+use Rattle.router_line.proofs.Laws.Line.{line-over, line-short, line-tagged, line-untabbed}
 use mathlib.Core.Path.{ap, _∙_}
 use Prim.Native.Nat.{_-_}
 use lib.Seq.{take-all}

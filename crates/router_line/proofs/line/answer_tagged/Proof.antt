@@ -1,9 +1,10 @@
 -- `router_line::line::answer_tagged` meets its contract.
 -- Assumes nothing.
 use Rattle.table_load.specs.Load.{loadAnswer}
+use Rattle.chars.proofs.Laws.Write.{wrote-as}
 use Rattle.mapping.specs.ToRecord.{toRecordBy}
 use Rattle.router_line.specs.Line.{recordLine, refusedLine, taggedLine, textLine}
-use Rattle.router_line.proofs.Laws.Line.{tagged-address, tagged-other, tagged-text, wrote-as}
+use Rattle.router_line.proofs.Laws.Line.{tagged-address, tagged-other, tagged-text}
 use borrow.Author.Needs.{needs}
 use Rattle.router_line.proofs.line.answer_tagged.Statement.{statement}
 use Rattle.router_line.proofs.line.answer_tagged.Tie as tie

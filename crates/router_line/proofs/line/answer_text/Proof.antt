@@ -1,12 +1,13 @@
 -- `router_line::line::answer_text` meets its contract.
 -- Assumes nothing.
 use mathlib.Core.Path.{sym, ap, _∙_}
+use Rattle.chars.proofs.Laws.Write.{wrote-as}
 use Rattle.table.specs.Lines.{wellFormed}
 use Rattle.table_load.specs.Load.{loadAnswer}
 use Rattle.table.specs.declared.load.TableRead.{TableRead}
 use Rattle.mapping.specs.Answers.{outward}
 use Rattle.router_line.specs.Line.{refusedLine, textLine}
-use Rattle.router_line.proofs.Laws.Line.{text-under, wrote-as}
+use Rattle.router_line.proofs.Laws.Line.{text-under}
 use borrow.Author.Needs.{needs}
 use Rattle.router_line.proofs.line.answer_text.Statement.{statement}
 use Rattle.router_line.proofs.line.answer_text.Tie as tie

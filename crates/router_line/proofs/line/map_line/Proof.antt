@@ -1,6 +1,7 @@
 -- `router_line::line::map_line` meets its contract.
 -- Assumes nothing.
 use mathlib.Core.Path.{_≡_, _∙_}
+use Rattle.chars.proofs.Laws.Write.{wrote-as}
 use native.Mathlib.Omega.{arith}
 use Rattle.oraddr.specs.View.{view}
 use Rattle.ortext_segments.specs.Keys.{keys}
@@ -10,7 +11,7 @@ use Rattle.mapping.specs.Answers.{toldRecord}
 use Rattle.mapping.specs.ToRecord.{toRecord}
 use Rattle.mapping.proofs.Laws.Steps.{inward-same}
 use Rattle.router_line.specs.Line.{doneLine, recordLine, refusedLine}
-use Rattle.router_line.proofs.Laws.Line.{record-canonical, record-done, record-not, record-small, wrote-as}
+use Rattle.router_line.proofs.Laws.Line.{record-canonical, record-done, record-not, record-small}
 use borrow.Author.Needs.{needs}
 use Rattle.router_line.proofs.line.map_line.Statement.{statement}
 use Rattle.router_line.proofs.line.map_line.Tie as tie

@@ -6,9 +6,8 @@ use Prim.Native.Nat.{ℕ, _+_}
 use native.Mathlib.Omega.{arith}
 use lib.ListN.{drop, length, length-set, set, take}
 use lib.Seq.{drop-set-lt}
-use Rattle.chars.proofs.Laws.Write.{wrote-one, wrote-same, wrote-then}
+use Rattle.chars.proofs.Laws.Write.{wrote-as, wrote-one, wrote-same, wrote-then}
 use Rattle.router_line.specs.Line.{doneLine}
-use Rattle.router_line.proofs.Laws.Line.{wrote-as}
 use borrow.Author.Needs.{needs}
 use Rattle.router_line.proofs.line.put_done.Statement.{statement}
 use Rattle.router_line.proofs.line.put_done.Tie as tie

@@ -1,13 +1,14 @@
 -- `router_line::line::read_line` meets its contract.
 -- Assumes nothing.
 use mathlib.Core.Path.{ap}
+use Rattle.chars.proofs.Laws.Write.{wrote-as}
 use Rattle.ortext_read.specs.Answers.{answered, reading}
 use Rattle.ortext_read.specs.Apply.{again, read, refused, unread}
 use Rattle.ortext_read.specs.declared.read.Answer.{Answer}
 use Rattle.table.specs.Lines.{wellFormed}
 use Rattle.mapping.specs.Answers.{outward}
 use Rattle.router_line.specs.Line.{readLine, refusedLine, textLine}
-use Rattle.router_line.proofs.Laws.Line.{read-as, wrote-as}
+use Rattle.router_line.proofs.Laws.Line.{read-as}
 use borrow.Author.Needs.{needs}
 use Rattle.router_line.proofs.line.read_line.Statement.{statement}
 use Rattle.router_line.proofs.line.read_line.Tie as tie

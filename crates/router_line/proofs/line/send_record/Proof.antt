@@ -6,6 +6,7 @@ use native.Mathlib.Omega.{arith}
 use borrow.Author.Tests.{not-false, not-true}
 use borrow.Rule.Slice.PartMut.{put-same, putMid, same-len-mid}
 use lib.ListN.{drop, length, length-drop, take}
+use Rattle.chars.proofs.Laws.Write.{wrote-as}
 use lib.Seq.{length-take-le}
 use Rattle.oraddr.specs.Canonical.{canonicalRecord}
 use Rattle.oraddr.specs.View.{view}
@@ -13,7 +14,7 @@ use Rattle.ortext_read.specs.Apply.{read}
 use Rattle.mapping.specs.Answers.{Fronted, addressRoom, outward}
 use Rattle.mapping.specs.ToAddress.{addressOf}
 use Rattle.router_line.specs.Line.{doneLine, readLine, refusedLine}
-use Rattle.router_line.proofs.Laws.Line.{done-over, sent-done, sent-none, sent-not, wrote-as}
+use Rattle.router_line.proofs.Laws.Line.{done-over, sent-done, sent-none, sent-not}
 use borrow.Author.Needs.{needs}
 use Rattle.router_line.proofs.line.send_record.Statement.{statement}
 use Rattle.router_line.proofs.line.send_record.Tie as tie

@@ -1,13 +1,14 @@
 -- `table_lookup::lookup::find_path` meets its contract: the levels laid out are a path's text, whose fields they are.
 -- Assumes nothing.
 use mathlib.Core.Path.{_≡_}
-use Prim.Native.Nat.{ℕ, _-_, _≤_}
+use Prim.Native.Nat.{ℕ, _+_, _-_, _≤_}
 use native.Mathlib.Omega.{arith}
 use borrow.Author.Needs.{needs}
 use lib.ListN.{take, drop}
 use Rattle.chars.specs.Lists.{all}
 use Rattle.chars.specs.Parts.{split}
-use Rattle.table_lookup.specs.Looked.{levelTokens}
+use Rattle.oraddr.specs.Bounds.{levelCount}
+use Rattle.table_lookup.specs.Looked.{levelTokens, levelsRoom}
 use Rattle.table_lookup.specs.Search.{tokensBy}
 use Rattle.table_lookup.proofs.Laws.Laid.{laid-out, room}
 use Rattle.table_lookup.proofs.lookup.find_path.Statement.{statement}
@@ -21,7 +22,7 @@ lay-out-requires c κs =
 -- what was laid out
 laid : (c : tie.After-lay-out) → let a = c .before .before .before .before .before .before .args in
     let e : ℕ = c .lay-out .result in
-    (1 ≤ e) × (e ≤ 520) × (split 9 (take (e - 1) (drop 1 (c .lay-out .last .0))) ≡ levelTokens (a .levels .now) (a .ends .now))
+    (1 ≤ e) × (e ≤ levelsRoom + levelCount) × (split 9 (take (e - 1) (drop 1 (c .lay-out .last .0))) ≡ levelTokens (a .levels .now) (a .ends .now))
 unfolding all
 laid c =
     let start = c .before .before .before .before .before .before in
