@@ -7,8 +7,8 @@ use native.Mathlib.Omega.{arith}
 use lib.ListN.{length, take, drop, length-drop}
 use lib.Seq.{take-all}
 use Rattle.table_load.specs.Load.{loadAnswer}
+use Rattle.chars.proofs.Laws.Write.{wrote-as}
 use Rattle.router_line.specs.Line.{lineAnswer}
-use Rattle.router_line.proofs.Laws.Line.{wrote-as}
 use Rattle.router.proofs.Laws.Run.{rest-full, routing-rest}
 use borrow.Author.Needs.{needs}
 use Rattle.router.proofs.run.answer_rest.Statement.{statement}

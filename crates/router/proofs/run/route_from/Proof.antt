@@ -9,9 +9,9 @@ use lib.ListN.{length, take, drop, length-drop}
 use Rattle.chars.specs.Parts.{run}
 use Rattle.chars.proofs.Laws.Parts.{run-le}
 use Rattle.table_load.specs.Load.{loadAnswer}
+use Rattle.chars.proofs.Laws.Write.{wrote-as}
 use Rattle.router_line.specs.Line.{lineAnswer}
 use Rattle.router.specs.Run.{Went}
-use Rattle.router_line.proofs.Laws.Line.{wrote-as}
 use Rattle.router.proofs.Laws.Run.{routing-end, routing-full, routing-then, went-line, went-start, went-then}
 use borrow.Author.Needs.{needs}
 use Rattle.router.proofs.run.route_from.Statement.{statement}
