@@ -1,10 +1,11 @@
--- Document 01, "Both sides of the edge": the cases marked *, "proved together, one table with a single statement over it".
+-- Document 01, "Both sides of the edge": the cases marked *, "proved together, one table with a single statement over it"; and request 12's edges.
 -- Assumes nothing.
 use mathlib.Core.Path.{_≡_}
 use Prim.Native.Nat.{ℕ}
 use mathlib.Core.Bool.{Bool, true, false}
 use mathlib.Core.List.{List, [], _∷_, List·Memᴰ}
 use mathlib.Core.Option.{Option, none, some, Option·map}
+use lib.ListN.{replicate}
 use Rattle.chars.specs.Lists.{bytes}
 use Rattle.oraddr.specs.Attributes.{Attributes, Dd, singleOf}
 use Rattle.oraddr.specs.Bounds.{ADMD}
@@ -31,6 +32,8 @@ pub data Case : Type 0 where
   adding : Dd → Answer → Case
   -- a record with C, ADMD and one DD, so that "canonical" turns on the DD alone
   judging : Dd → Answer → Case
+  -- a record, canonical or not
+  ruling : Attributes → Answer → Case
   -- a text read as a personal name
   naming : List ℕ → Answer → Case
   -- what is left of a record, written as a local part; and whether that is the short form
@@ -55,6 +58,11 @@ withDd d = record { single = bytes "XY" ∷ bytes " " ∷ [] ∷ [] ∷ [] ∷ [
 unfoldable pub withName : List ℕ → List ℕ → Attributes
 withName g s = record { single = [] ∷ [] ∷ [] ∷ [] ∷ [] ∷ s ∷ g ∷ [] ∷ [] ∷ []; units = []; dds = [] }
 
+-- a record with C XY, ADMD one space, a common name, a given name and a surname
+unfoldable pub withCommon : List ℕ → List ℕ → List ℕ → Attributes
+unfolding bytes
+withCommon c g s = record { single = bytes "XY" ∷ bytes " " ∷ [] ∷ [] ∷ c ∷ s ∷ g ∷ [] ∷ [] ∷ []; units = []; dds = [] }
+
 unfoldable pub admdOf : Reading → Option (List ℕ)
 unfolding singleOf view
 admdOf unread = none
@@ -67,6 +75,7 @@ unfoldable pub given : Case → Answer
 unfolding addDd view canonical withDd readName localText writesShort keys admdOf readText coded decoded shapeOf
 given (adding d a) = told (addDd emptyRecord (d .kind) (d .value) .number) (view (addDd emptyRecord (d .kind) (d .value) .record') .dds)
 given (judging d a) = judged (canonical (withDd d))
+given (ruling r a) = judged (canonical r)
 given (naming s a) = aName (readName s)
 given (writing r a) = aText (some (localText keys r))
 given (shortening r a) = judged (writesShort r)
@@ -75,10 +84,11 @@ given (coding s a) = aText (some (coded s))
 given (decoding s a) = aText (decoded s)
 given (shaping s a) = aText (Option·map (λ (x : Address). x .domain) (shapeOf s))
 
--- what document 01 says
+-- what the papers say
 unfoldable pub wanted : Case → Answer
 wanted (adding d a) = a
 wanted (judging d a) = a
+wanted (ruling r a) = a
 wanted (naming s a) = a
 wanted (writing r a) = a
 wanted (shortening r a) = a
@@ -88,7 +98,7 @@ wanted (decoding s a) = a
 wanted (shaping s a) = a
 
 unfoldable pub cases : List Case
-unfolding bytes withName
+unfolding bytes withName withCommon
 cases =
     -- "`Marshall.M.T.Rose` is G Marshall, I MT, S Rose; `M.T.Rose` is I MT, S Rose; `Marshall.` is no name."
     naming (bytes "Marshall.M.T.Rose") (aName (some (record { given = bytes "Marshall"; initials = bytes "MT"; surname = bytes "Rose" })))
@@ -113,9 +123,19 @@ cases =
     ∷ judging (dd (bytes "FENDER-10") (bytes "x")) (judged false)
     -- "`/S=Lee/C=XY/` has ADMD one space."
     ∷ completing (bytes "/S=Lee/C=XY/") (aText (some (bytes " ")))
+    -- request 12: "bound 64"; "A canonical record now has S, a common name or at least one DD."
+    ∷ ruling (withCommon (replicate 64 97) [] []) (judged true)
+    ∷ ruling (withCommon (replicate 65 97) [] []) (judged false)
+    ∷ ruling (withCommon (bytes "Desk") [] (bytes "Lee")) (judged true)
+    ∷ ruling (withCommon (bytes "Desk") (bytes "Ann") []) (judged false)
+    ∷ ruling (withCommon [] [] []) (judged false)
+    -- "before G"; "The short name form is used only if no common name is left."
+    ∷ writing (withCommon (bytes "Desk") (bytes "Ann") (bytes "Lee")) (aText (some (bytes "/CN=Desk/G=Ann/S=Lee/ADMD= /C=XY/")))
+    ∷ shortening (record { single = [] ∷ [] ∷ [] ∷ [] ∷ bytes "Desk" ∷ bytes "Lee" ∷ [] ∷ [] ∷ [] ∷ []; units = []; dds = [] }) (judged false)
+    ∷ shortening (withName [] (bytes "Lee")) (judged true)
     ∷ []
 
--- the single statement: every case of the table comes out as document 01 says
+-- the single statement: every case of the table comes out as the papers say
 unfoldable pub EveryCase : Type 0
 unfolding given wanted cases
 EveryCase = (c : Case) → List·Memᴰ c cases → given c ≡ wanted c
