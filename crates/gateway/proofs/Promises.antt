@@ -73,6 +73,7 @@ use Rattle.mailaddr.specs.Tail.{sharedTail, tailPlace}
 use Rattle.mailaddr.proofs.Laws.Tail.{tail-drop, tail-longest, tail-place, tail-second, tail-suffix}
 use Rattle.soundness.proofs.Laws.Comes.{not-six-room, room-not-six}
 use Rattle.router.specs.Run.{called, ended}
+use Rattle.gateway.proofs.Laws.Rooms.{rooms}
 use Rattle.gateway.proofs.Laws.Entire.{addition-ends, short-shape, source-formed, source-rules, under-table, unshortened}
 use Rattle.table.proofs.Laws.FirstBad.{bad-first, first-bad, formed-well, well-formed}
 use Rattle.mapping.proofs.Laws.Carried.{carried-is}
@@ -623,6 +624,7 @@ promises =
       demand1 = demand1;
       demand2 = demand2;
       demand3 = demand3;
+      rooms = rooms;
       router = router;
       packing = packing;
       shared-tails = shared-tails;

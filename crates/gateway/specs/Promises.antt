@@ -272,6 +272,16 @@ pub record Demand3Exactly : Type 0 where
   pub judges : (table : Source) (o : CheckResult) → Demand3 (spelling table) o → Judgement table o
   pub room : (t : Table) (r : Record) (old : List ℕ) → Room t r old
 
+-- ---- room for one answer is enough for any text under a table, so that 6 is never the answer there
+
+pub record Rooms : Type 0 where
+  pub to-address : (table : Source) (r : Record) (old : List ℕ) → Struct r → answerRoom ≤ length old → recordTo table r old .number ≡ 6 → ⊥
+  pub write-record : (r : Record) (old : List ℕ) → answerRoom ≤ length old → textOfRecord r old .number ≡ 6 → ⊥
+  pub address-text : (table : Source) (s old : List ℕ) → answerRoom ≤ length old → textResult (addressTo table s) old .number ≡ 6 → ⊥
+  pub text-address : (table : Source) (s old : List ℕ) → answerRoom ≤ length old → textToAddressBy (spelling table) s old .number ≡ 6 → ⊥
+  -- and the check's witness fits
+  pub witness : (r : Record) → canonicalRecord r ≡ true → length (recordText keys (view r)) ≤ answerRoom
+
 -- ---- the router: however the input is cut into chunks as it arrives, and however small the room for output (from that of one answer up), the
 -- whole output is that of the whole input
 
@@ -401,6 +411,7 @@ pub record Promises : Type 0 where
   pub demand1 : Demand1
   pub demand2 : Demand2
   pub demand3 : Demand3Exactly
+  pub rooms : Rooms
   pub router : Router
   pub packing : Packing
   pub shared-tails : SharedTails
