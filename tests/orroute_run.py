@@ -1,8 +1,10 @@
 #!/usr/bin/env python3
 """Writes the run of crates/orroute: its stdin, and what must come out (its stdout). The run begins with the sample of document 01 (the
-crate's data/sample.txt) and goes on with lines of every kind and length, more than the program's buffer holds. The answers are of
+crate's data/sample.txt) and goes on with lines of every kind and length, more than the program's buffers hold. The answers are of
 tests/mapping.py and tests/rules.py, plain Python that follows document 01 and request 12 by itself, and that must give the answers of the
 stored runs (tests/stored.py) too. Nothing of the library is run. Run it from the repository's root."""
+import itertools
+
 import mapping
 import rules
 import stored
@@ -11,8 +13,9 @@ from table_cases import load
 
 CRATE = "crates/orroute/"
 LONGEST_LINE = 4096
-# The room of the program's input. A read of a file ends where the room does.
+# The rooms of the program's input and output. A read of a file ends where the input's does.
 ROOM = 65536
+OUTPUT_ROOM = 262144
 # What document 01 prints for its four lines.
 SAMPLE = rb"""0	/G=Ann/S=Lee/O=brack/PRMD=TOW/ADMD=PORTNET/C=XY/
 0	/RFC-822=a(u)b(a)else.test/PRMD=SURVEY/ADMD= /C=XY/
@@ -113,15 +116,15 @@ def size(lines):
 def lines_of_run(sample):
     """The lines, each without its LF; the last lacks one in the run as well."""
     refused = [line for lines in REFUSED.values() for line in lines]
-    # short lines whose answers are long: for one read, more than was read
-    lines = sample + refused + [b"A\t" + b"~" * (i % 20) + b"%d@b" % i for i in range(700)] + [short_line(i) for i in range(260)]
+    # short lines whose answers are long: for one read, more than the output's room
+    lines = sample + refused + [b"A\t~@%c" % (97 + i % 26) for i in range(5720)] + [short_line(i) for i in range(60)]
     # a line at the limit that waits whole at the end of the first read, its LF not there yet
-    lines += [long_line(i) for i in range(12)]
     lines.append(b"x" * (ROOM - LONGEST_LINE - size(lines) - 1))
     lines.append(b"O\t/S=" + b"y" * (LONGEST_LINE - 11) + b"/C=XY/")
     assert size(lines) == ROOM + 1
+    lines += [short_line(i) for i in range(60, 260)]
     # lines over the limit, the last of them longer than the buffer
-    lines += [long_line(i) for i in range(12, 18)] + [b"A\t" + b"x" * (LONGEST_LINE - 1), short_line(0)]
+    lines += [long_line(i) for i in range(18)] + [b"A\t" + b"x" * (LONGEST_LINE - 1), short_line(0)]
     lines += [b"A\tLee@tow.test" * 5000, b"", short_line(0)] + refused
     # the longest text of a record, and its address
     longest = rules.record_text(rules.longest_record())
@@ -145,6 +148,8 @@ def main():
     lines = lines_of_run(sample)
     answers = [answer(table, line) + b"\n" for line in lines]
     assert b"".join(answers[: len(sample)]) == SAMPLE
+    ends = itertools.accumulate(len(line) + 1 for line in lines)
+    assert sum(len(found) for found, end in zip(answers, ends) if end <= ROOM) > OUTPUT_ROOM
     for number, refused in REFUSED.items():
         assert all(answer(table, line) == b"%d" % number for line in refused), number
     with open(CRATE + "stdin", "wb") as f:
