@@ -14,7 +14,8 @@ ghost use Prim.Native.Nat.{_≤_};
 ghost use lib.ListN.{take, drop};
 ghost use Rattle.date_read.specs.declared.date.Second.the-variants.{At, Absent};
 ghost use Rattle.date_read.specs.Date.{mostOffset};
-ghost use Rattle.date_read.specs.Read.{dateNames, dayNames, kept, lastPlace, monthLetters, monthNames, numberIn, offsetOf, oneDigit, readBody, readDate, readRest, readUtc, reading, restEnd, restWith, signed, spacedAt, threes, twoDigits, utcEnd, utcNames, utcWith, zoneOf};
+ghost use Rattle.date_read.specs.Read.{dateNames, dayNames, monthLetters, monthNames, numberIn, offsetOf, oneDigit, signed, spacedAt, threes, twoDigits, utcNames, zoneOf};
+ghost use Rattle.date_read.specs.Read.{kept, lastPlace, readBody, readDate, readRest, readUtc, reading, restEnd, restWith, utcEnd, utcWith};
 
 const NO_NUMBER: usize = 100;
 

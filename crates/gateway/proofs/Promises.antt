@@ -24,7 +24,7 @@ use Rattle.ortext_write.specs.Write.{recordText}
 use Rattle.mailaddr.specs.Answers.{Shaping, fromShape, noShape, shaped, shaping, tooLong}
 use Rattle.mailaddr.specs.Code.{coded}
 use Rattle.mailaddr.specs.Shape.{Address, longestAddress, shapeOf}
-use Rattle.table.specs.Lines.{TableOutcome, loadedFrom, malformed, wellFormed}
+use Rattle.table.specs.Lines.{TableOutcome, malformed, wellFormed}
 use Rattle.table.specs.Table.{Table}
 use Rattle.mapping.specs.Carried.{carriedWhole, carrierOf, carrying, longestCoded, resultOf}
 use Rattle.mapping.specs.Results.{AddressResult, RecordResult, malformedAddress, malformedRecord, mapped, placed, refusedAddress, refusedRecord}
@@ -74,7 +74,7 @@ use Rattle.mailaddr.proofs.Laws.Tail.{tail-drop, tail-longest, tail-place, tail
 use Rattle.soundness.proofs.Laws.Comes.{not-six-room, room-not-six}
 use Rattle.router.specs.Run.{called, ended}
 use Rattle.gateway.proofs.Laws.Rooms.{rooms}
-use Rattle.gateway.proofs.Laws.Entire.{addition-ends, short-shape, source-formed, source-rules, under-table, unshortened}
+use Rattle.gateway.proofs.Laws.Entire.{addition-ends, record-ends, short-shape, source-formed, source-rules, under-table, unshortened}
 use Rattle.table.proofs.Laws.FirstBad.{bad-first, first-bad, formed-well, well-formed}
 use Rattle.mapping.proofs.Laws.Carried.{carried-is}
 use Rattle.gateway_export.proofs.Laws.Exports.{not-canonical}
@@ -86,21 +86,6 @@ unfolding addressToRecord recordToAddress addressToText textToAddress
 texts = record { to-record = λ table s. refl; to-address = λ table r old. refl; address-text = λ table s old. refl; text-address = λ table s old. refl }
 
 -- ---- demand 1
-
--- of address to record
-by-shape : (t : Table) (s : List ℕ) (x : Shaping) → EndsRecord (1 ∷ 2 ∷ 3 ∷ 7 ∷ []) (recordBy t s x .number) (recordBy t s x .record')
-unfolding recordBy refusedRecord carrying mapped member
-by-shape t s tooLong = inr (refl, refl)
-by-shape t s noShape = inr (refl, refl)
-by-shape t s (shaped a) =
-    by-test (carriedWhole t a)
-    (λ c. by-test (ltb longestCoded (length (coded s))) (λ e. rw (c, e) (inr (refl, refl))) (λ e. rw (c, e) (inl refl)))
-    (λ c. rw c (inl refl))
-
-record-ends : (l : TableOutcome) (s : List ℕ) → EndsRecord (1 ∷ 2 ∷ 3 ∷ 7 ∷ []) (toRecordBy l s .number) (toRecordBy l s .record')
-unfolding toRecordBy malformedRecord toRecord member
-record-ends (malformed n) s = inr (refl, refl)
-record-ends (wellFormed t) s = by-shape t s (shaping s)
 
 -- of a text in a buffer
 module _ (numbers old : List ℕ) where

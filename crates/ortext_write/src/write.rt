@@ -42,7 +42,8 @@ ghost use Rattle.oraddr.specs.View.{ddView, ddsView, unitView, unitsView, value
 ghost use Rattle.oraddr.specs.Bounds.{ownLevels, singleCount};
 ghost use Rattle.ortext_segments.specs.Keys.{OU-KEY, PN-KEY, keyCount, keys};
 ghost use Rattle.ortext_name.specs.Name.{isShort, nameText};
-ghost use Rattle.ortext_write.specs.Write.{ddSegment, hasShort, joined, keyValue, localText, longDd, onlyName, order, plainSegment, quoted, recordText, remaining, segmentText, segmentsAt, segmentsIn, writesShort};
+ghost use Rattle.ortext_write.specs.Write.{ddSegment, hasShort, joined, keyValue, longDd, order, plainSegment, quoted, segmentText, segmentsAt, segmentsIn};
+ghost use Rattle.ortext_write.specs.Write.{localText, onlyName, recordText, remaining, writesShort};
 
 // The order in which record text is written, by the numbers of the keys: those before PN, which is read only.
 const ORDER: [usize; PN_KEY] = [DD_KEY, CN, G, I, S, GQ, OU_KEY, O, PRMD, ADMD, C];

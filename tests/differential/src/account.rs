@@ -24,6 +24,18 @@ const ALL_CLAUSES: [Clause; CLAUSES] = [
 /// The account of calls whose list is handed over as a text, too.
 pub const BESIDE_TEXT: &str = "list beside its text";
 
+/// What a record with a common name has beside it, and how long the name is.
+const WITH_CN: &[&str] = &[
+    "alone",
+    "beside S",
+    "beside PN",
+    "beside DDs",
+    "of 1 byte",
+    "of 63 bytes",
+    "of 64 bytes",
+    "with / or =",
+];
+
 /// Every answer that can come up.
 const ANSWERS: &[(&str, &[&str])] = &[
     ("to_record", &["0", "1", "2", "3", "6", "7", "7, line 0"]),
@@ -59,24 +71,13 @@ const ANSWERS: &[(&str, &[&str])] = &[
             "refused with 3",
         ],
     ),
-    (
-        "CN mapped",
-        &[
-            "alone",
-            "beside S",
-            "beside PN",
-            "beside DDs",
-            "of 1 byte",
-            "of 63 bytes",
-            "of 64 bytes",
-            "with / or =",
-        ],
-    ),
+    ("CN mapped", WITH_CN),
     (
         "record with CN",
         &[
             "handed over",
             "written",
+            "written: else a carrier",
             "refused with 4",
             "refused: named twice",
             "refused: empty",
@@ -84,20 +85,7 @@ const ANSWERS: &[(&str, &[&str])] = &[
             "refused: G, I or GQ without S",
         ],
     ),
-    (
-        "CN written",
-        &[
-            "alone",
-            "beside S",
-            "beside PN",
-            "beside DDs",
-            "of 1 byte",
-            "of 63 bytes",
-            "of 64 bytes",
-            "with / or =",
-            "else a carrier",
-        ],
-    ),
+    ("CN written", WITH_CN),
     (
         "CN read back",
         &["as it was", "as another record", "refused"],

@@ -124,7 +124,7 @@ pub fn count_record(
         (Ok(()), Some(record)) => {
             account.count("record with CN", "written");
             if is_else_carrier(table, record) {
-                account.count("CN written", "else a carrier");
+                account.count("record with CN", "written: else a carrier");
             }
             count_kinds(account, "CN written", text, record);
         }

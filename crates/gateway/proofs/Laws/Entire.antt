@@ -10,6 +10,7 @@ use native.Mathlib.Omega.{arith}
 use borrow.Author.Tests.{le-ltb, ltb-true}
 use lib.Dec.{eqb, ltb}
 use lib.ListN.{length, getD, set}
+use Rattle.chars.specs.Lists.{member}
 use Rattle.chars.proofs.Laws.Lists.{and-right, by-test}
 use Rattle.oraddr.specs.Add.{addDd, addSingle, addUnit, outcome}
 use Rattle.oraddr.specs.Attributes.{Dd}
@@ -24,23 +25,23 @@ use Rattle.ortext_read.specs.Apply as apply
 use Rattle.ortext_read.specs.Apply.{again, read, readText, refused, unread}
 use Rattle.ortext_name.proofs.Laws.Name.{name-short}
 use Rattle.ortext_write.proofs.Laws.Written.{keys-good, written-back}
-use Rattle.mailaddr.specs.Answers.{fromShape, shaped, shaping}
+use Rattle.mailaddr.specs.Answers.{fromShape, shaped, shaping, Shaping, noShape, tooLong}
 use Rattle.mailaddr.specs.Code.{coded}
 use Rattle.mailaddr.specs.Shape.{Address, longestAddress, shapeOf}
 use Rattle.table.specs.Formed.{Formed}
-use Rattle.table.specs.Lines.{wellFormed}
+use Rattle.table.specs.Lines.{wellFormed, TableOutcome, malformed}
 use Rattle.table_load.specs.Load.{FormedBy}
 use Rattle.table_load.proofs.Laws.Ready.{loaded-rules}
 use Rattle.rowlist_load.proofs.Laws.Whole.{listed-rules}
 use Rattle.table.specs.Table.{Table}
-use Rattle.mapping.specs.Carried.{carriedWhole, carrierType}
-use Rattle.mapping.specs.Results.{RecordResult}
-use Rattle.mapping.specs.ToRecord.{toRecord, toRecordBy}
+use Rattle.mapping.specs.Carried.{carriedWhole, carrierType, carrying, longestCoded}
+use Rattle.mapping.specs.Results.{RecordResult, malformedRecord, mapped, refusedRecord}
+use Rattle.mapping.specs.ToRecord.{toRecord, toRecordBy, recordBy}
 use Rattle.mapping.specs.Whole.{Whole, WholeText}
 use Rattle.mapping.proofs.Laws.CarriedBack.{carried-dds-text}
 use Rattle.mapping.proofs.Laws.Whole.{returned-whole, whole-text}
 use Rattle.gateway_text.specs.Texts.{readOutcome, recordOfText}
-use Rattle.gateway.specs.Promises.{EndsAddition, Source, Struct, Unshortened, addressTo, list, spelling, text}
+use Rattle.gateway.specs.Promises.{EndsAddition, Source, Struct, Unshortened, addressTo, list, spelling, text, EndsRecord}
 
 -- ---- what is added
 
@@ -102,6 +103,21 @@ short-shape s o l h = rw (le-ltb longestAddress (length s) l, h)
 pub under-table : (x : Source) (s : List ℕ) (t : Table) → spelling x ≡ wellFormed t → addressTo x s ≡ toRecord t s
 unfolding toRecordBy
 under-table x s t h = rw h
+
+-- address to record: 0, or one of its numbers and an empty record
+by-shape : (t : Table) (s : List ℕ) (x : Shaping) → EndsRecord (1 ∷ 2 ∷ 3 ∷ 7 ∷ []) (recordBy t s x .number) (recordBy t s x .record')
+unfolding recordBy refusedRecord carrying mapped member
+by-shape t s tooLong = inr (refl, refl)
+by-shape t s noShape = inr (refl, refl)
+by-shape t s (shaped a) =
+    by-test (carriedWhole t a)
+    (λ c. by-test (ltb longestCoded (length (coded s))) (λ e. rw (c, e) (inr (refl, refl))) (λ e. rw (c, e) (inl refl)))
+    (λ c. rw c (inl refl))
+
+pub record-ends : (l : TableOutcome) (s : List ℕ) → EndsRecord (1 ∷ 2 ∷ 3 ∷ 7 ∷ []) (toRecordBy l s .number) (toRecordBy l s .record')
+unfolding toRecordBy malformedRecord toRecord member
+record-ends (malformed n) s = inr (refl, refl)
+record-ends (wellFormed t) s = by-shape t s (shaping s)
 
 -- whatever spells a table, that keeps the rules of "The table text"
 pub source-rules : (x : Source) → FormedBy (spelling x)

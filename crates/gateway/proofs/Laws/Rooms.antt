@@ -2,14 +2,16 @@
 -- Assumes nothing.
 use mathlib.Core.Path.{_≡_, refl}
 use mathlib.Core.Bool.{true}
-use mathlib.Core.List.{List}
+use mathlib.Core.Logic.{inl, inr}
+use mathlib.Core.List.{List, [], _∷_}
 use mathlib.Core.Option.{Option, none, some}
 use Prim.Native.Nat.{ℕ, _≤_}
 use native.Mathlib.Omega.{arith}
 use borrow.Author.Tests.{eqb-true, le-ltb}
-use lib.Dec.{eqb, ltb}
+use lib.Dec.{eqb}
 use lib.ListN.{length}
-use Rattle.chars.proofs.Laws.Lists.{by-test}
+use Rattle.chars.specs.Lists.{member}
+use Rattle.chars.proofs.Laws.Lists.{by-test, true-not-false}
 use Rattle.oraddr.specs.Bounds.{singleCount}
 use Rattle.oraddr.specs.Canonical.{canonicalRecord}
 use Rattle.oraddr.specs.View.{emptyRecord, view}
@@ -24,20 +26,17 @@ use Rattle.table.specs.Formed.{Formed}
 use Rattle.table.specs.Lines.{TableOutcome, malformed, wellFormed}
 use Rattle.table.specs.Table.{Table}
 use Rattle.table_load.specs.Load.{FormedBy}
-use Rattle.mailaddr.specs.Answers.{Shaping, noShape, shaped, shaping, tooLong}
-use Rattle.mailaddr.specs.Code.{coded}
-use Rattle.mapping.specs.Carried.{carriedWhole, carrying, longestCoded}
-use Rattle.mapping.specs.Results.{malformedAddress, malformedRecord, mapped, placed, refusedAddress, refusedRecord}
+use Rattle.mapping.specs.Results.{malformedAddress, malformedRecord, placed, refusedAddress}
 use Rattle.mapping.specs.ToAddress.{addressOf, placedIn, toAddress, toAddressBy}
-use Rattle.mapping.specs.ToRecord.{recordBy, toRecord, toRecordBy}
+use Rattle.mapping.specs.ToRecord.{toRecord, toRecordBy}
 use Rattle.mapping.proofs.Laws.Returned.{done-canonical}
 use Rattle.mapping.proofs.Laws.Short.{address-most}
 use Rattle.mapping.proofs.Laws.Whole.{text-places}
 use Rattle.router_line.specs.Line.{answerRoom}
 use Rattle.gateway_text.specs.Texts.{textOfRecord}
 use Rattle.gateway_export.specs.Exports.{readingToAddress, textResult, textToAddressBy}
-use Rattle.gateway.specs.Promises.{Rooms, spelling}
-use Rattle.gateway.proofs.Laws.Entire.{source-rules}
+use Rattle.gateway.specs.Promises.{EndsRecord, Rooms, spelling}
+use Rattle.gateway.proofs.Laws.Entire.{record-ends, source-rules}
 
 -- a text that fits is placed
 placed-fits : (s old : List ℕ) → length s ≤ length old → placed s old .number ≡ 6 → ⊥
@@ -77,16 +76,10 @@ module _ (old : List ℕ) (l : answerRoom ≤ length old) where
       (λ c. let e : _≡_ {A = ℕ} 4 6 = rw c at h in absurd (omega arith))
 
   -- an address to a record's text: what address to record itself answers is no 6
-  by-shape : (t : Table) (s : List ℕ) (x : Shaping) → recordBy t s x .number ≡ 6 → ⊥
-  unfolding recordBy refusedRecord carrying mapped
-  by-shape t s tooLong h = absurd (omega arith)
-  by-shape t s noShape h = absurd (omega arith)
-  by-shape t s (shaped a) h =
-      by-test (carriedWhole t a)
-      (λ e. by-test (ltb longestCoded (length (coded s)))
-      (λ g. let z : _≡_ {A = ℕ} 3 6 = rw (e, g) at h in absurd (omega arith))
-      (λ g. let z : _≡_ {A = ℕ} 0 6 = rw (e, g) at h in absurd (omega arith)))
-      (λ e. let z : _≡_ {A = ℕ} 0 6 = rw e at h in absurd (omega arith))
+  not-six : (n : ℕ) (r : Record) → EndsRecord (1 ∷ 2 ∷ 3 ∷ 7 ∷ []) n r → n ≡ 6 → ⊥
+  unfolding member
+  not-six n r (inl z) h = absurd (omega arith)
+  not-six n r (inr e) h = true-not-false (member n (1 ∷ 2 ∷ 3 ∷ 7 ∷ [])) (e .0) (rw h)
 
   mapped-fits : (o : TableOutcome) → FormedBy o → (s : List ℕ) → textResult (toRecordBy o s) old .number ≡ 6 → ⊥
   unfolding textResult toRecordBy malformedRecord toRecord
@@ -96,7 +89,7 @@ module _ (old : List ℕ) (l : answerRoom ≤ length old) where
       (λ e. let r : Record = toRecord t s .record' in
       let c : canonicalRecord r ≡ true = done-canonical t f s (eqb-true (toRecord t s .number) 0 e) in
       placed-fits (recordText keys (view r)) old (omega (arith, text-fits r c)) (rw e at h))
-      (λ e. by-shape t s (shaping s) (rw e at h))
+      (λ e. not-six (toRecord t s .number) (toRecord t s .record') (record-ends (wellFormed t) s) (rw e at h))
 
   -- a record text to an address
   by-reading : (t : Table) → Formed t → (x : apply.Reading) → ((r : Record) → x ≡ read r → length (view r .single) ≡ singleCount) → readingToAddress t x old .number ≡ 6 → ⊥
