@@ -3,7 +3,7 @@ ghost use Rattle.std.specs.Prelude.{◌≤◌, length};
 ghost use Rattle.address_cases.specs.Limits.{longest_case};
 
 use cases::parts::{first_field, front, rest, second_field};
-use cases::print::{say, say_flag, say_number};
+use cases::print::{Output, say, say_flag, say_number};
 use cases::read::unhex;
 use mailaddr::code::{Decoded, decode, put_coded};
 use mailaddr::domain::{count_parts, is_domain, part_start};
@@ -19,98 +19,98 @@ const ROOM: usize = 8192;
 const LONGEST_CASE: usize = LONGEST_ADDRESS + 1;
 
 // A number, and a space.
-fn say_count(n: usize) {
-    say_number(n);
-    say(b" ");
+fn say_count(to: &mut Output, n: usize) {
+    say_number(to, n);
+    say(to, b" ");
 }
 
 // Whether something holds, and a space.
-fn say_bit(b: bool) {
-    say_flag(b);
-    say(b" ");
+fn say_bit(to: &mut Output, b: bool) {
+    say_flag(to, b);
+    say(to, b" ");
 }
 
-fn print_local(s: &[u8]) {
-    say_bit(is_readable(s));
-    say(s);
+fn print_local(to: &mut Output, s: &[u8]) {
+    say_bit(to, is_readable(s));
+    say(to, s);
 }
 
-fn print_unquoted(s: &[u8], parted: Parted)
+fn print_unquoted(to: &mut Output, s: &[u8], parted: Parted)
     requires s_len_bound { length s.now ≤ longest_case }
     requires at_in_bounds { parted.at ≤ length s.now }
 {
     let mut out = [0u8; ROOM];
     let n = unquote_local(&mut out, s, parted);
-    print_local(front(&out, n));
+    print_local(to, front(&out, n));
 }
 
-fn print_parted(s: &[u8], parted: Parted)
+fn print_parted(to: &mut Output, s: &[u8], parted: Parted)
     requires { length s.now ≤ longest_case }
 {
-    say(b"0 ");
-    say_count(parted.at);
-    say_bit(parted.quoted);
+    say(to, b"0 ");
+    say_count(to, parted.at);
+    say_bit(to, parted.quoted);
     if parted.at <= s.len() {
-        print_unquoted(s, parted);
+        print_unquoted(to, s, parted);
     }
 }
 
-fn print_shape(s: &[u8])
+fn print_shape(to: &mut Output, s: &[u8])
     requires { length s.now ≤ longest_case }
 {
     match read_shape(s) {
-        ShapeRead::Address(parted) => print_parted(s, parted),
-        ShapeRead::TooLong => say(b"2"),
-        ShapeRead::NoShape => say(b"1"),
+        ShapeRead::Address(parted) => print_parted(to, s, parted),
+        ShapeRead::TooLong => say(to, b"2"),
+        ShapeRead::NoShape => say(to, b"1"),
     }
 }
 
-fn print_coded(s: &[u8])
+fn print_coded(to: &mut Output, s: &[u8])
     requires { length s.now ≤ longest_case }
 {
     let mut out = [0u8; 128];
     let n = put_coded(&mut out, s);
-    say_count(n);
-    say(front(&out, n));
+    say_count(to, n);
+    say(to, front(&out, n));
 }
 
-fn print_decoded(s: &[u8])
+fn print_decoded(to: &mut Output, s: &[u8])
     requires { length s.now ≤ longest_case }
 {
     let mut out = [0u8; ROOM];
     match decode(&mut out, s) {
         Decoded::Length(n) => {
-            say(b"0 ");
-            say(front(&out, n));
+            say(to, b"0 ");
+            say(to, front(&out, n));
         }
-        Decoded::Undecoded => say(b"5"),
+        Decoded::Undecoded => say(to, b"5"),
     }
 }
 
 // A local part, quoted where it has to be.
-fn print_quoted(s: &[u8])
+fn print_quoted(to: &mut Output, s: &[u8])
     requires { length s.now ≤ longest_case }
 {
     let mut out = [0u8; ROOM];
     let n = put_local(&mut out, 0, s);
-    say(front(&out, n));
+    say(to, front(&out, n));
 }
 
-fn print_address(s: &[u8], domain: &[u8])
+fn print_address(to: &mut Output, s: &[u8], domain: &[u8])
     requires { length s.now ≤ longest_case }
 {
-    print_quoted(s);
-    say(b"@");
-    say(domain);
+    print_quoted(to, s);
+    say(to, b"@");
+    say(to, domain);
 }
 
 // The parts from the right, each with a bar behind it.
-fn print_each_part(s: &[u8]) {
+fn print_each_part(to: &mut Output, s: &[u8]) {
     let mut end = s.len();
     loop {
         let start = part_start(s, end);
-        say(&s[start..end]);
-        say(b"|");
+        say(to, &s[start..end]);
+        say(to, b"|");
         if start == 0 {
             return;
         }
@@ -118,55 +118,55 @@ fn print_each_part(s: &[u8]) {
     }
 }
 
-fn print_parts(s: &[u8]) {
-    say_count(count_parts(s));
-    say_bit(is_domain(s));
-    print_each_part(s);
+fn print_parts(to: &mut Output, s: &[u8]) {
+    say_count(to, count_parts(s));
+    say_bit(to, is_domain(s));
+    print_each_part(to, s);
 }
 
-fn print_tail(a: &[u8], b: &[u8]) {
+fn print_tail(to: &mut Output, a: &[u8], b: &[u8]) {
     let tail = shared_tail(a, b);
-    say_count(a.len() - tail.len());
-    say(tail);
+    say_count(to, a.len() - tail.len());
+    say(to, tail);
 }
 
 // A command on one text or two.
-fn run_command(command: u8, first: &[u8], second: &[u8])
+fn run_command(to: &mut Output, command: u8, first: &[u8], second: &[u8])
     requires { length first.now ≤ longest_case }
 {
     match command {
-        b'S' => print_shape(first),
-        b'C' => print_coded(first),
-        b'D' => print_decoded(first),
-        b'P' => print_parts(first),
-        b'Q' => print_address(first, second),
-        _ => print_tail(first, second),
+        b'S' => print_shape(to, first),
+        b'C' => print_coded(to, first),
+        b'D' => print_decoded(to, first),
+        b'P' => print_parts(to, first),
+        b'Q' => print_address(to, first, second),
+        _ => print_tail(to, first, second),
     }
-    say(b"\n");
+    say(to, b"\n");
 }
 
 // A command on texts, the first of which is no longer than what is looked at.
-fn run_texts(command: u8, first: &[u8], second: &[u8]) {
+fn run_texts(to: &mut Output, command: u8, first: &[u8], second: &[u8]) {
     if LONGEST_CASE < first.len() {
         return;
     }
-    run_command(command, first, second);
+    run_command(to, command, first, second);
 }
 
 // A command, and its texts in hexadecimal.
-fn run_spelt(command: u8, first: &[u8], second: &[u8]) {
+fn run_spelt(to: &mut Output, command: u8, first: &[u8], second: &[u8]) {
     let mut one = [0u8; ROOM];
     let mut two = [0u8; ROOM];
     let n = unhex(&mut one, first);
     let m = unhex(&mut two, second);
-    run_texts(command, front(&one, n), front(&two, m));
+    run_texts(to, command, front(&one, n), front(&two, m));
 }
 
 // One line: a command, a tab and the texts.
-pub(crate) fn run_line(line: &[u8]) {
+pub(crate) fn run_line(to: &mut Output, line: &[u8]) {
     if line.len() < 2 {
         return;
     }
     let texts = rest(line, 2);
-    run_spelt(line[0], first_field(texts), second_field(texts));
+    run_spelt(to, line[0], first_field(texts), second_field(texts));
 }

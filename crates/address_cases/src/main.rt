@@ -9,29 +9,38 @@
 //   Q TEXT TEXT    the address of a local part's text and a domain
 //   P TEXT         how many parts a domain has, whether each is a domain part, and the parts from the right
 //   T TEXT TEXT    where the tail that the two share starts in the first, and the tail
+#![tactic(auto)]
+
 mod commands;
 
+use cases::files::read_full;
 use cases::lines::{line, next_line};
+use cases::print::Output;
 use commands::run_line;
+use std::io;
+use std::io::{Stdin, Stdout};
 
 // Standard input, at most.
 const ROOM: usize = 524288;
 
-fn run(s: &[u8]) {
+fn run(to: &mut Output, s: &[u8]) {
     let mut from = 0;
     while from < s.len() {
-        run_line(line(s, from));
+        run_line(to, line(s, from));
         from = next_line(s, from);
     }
 }
 
 // Reads standard input, and runs it.
-fn read_and_run(space: &mut [u8]) {
-    let n = io::read_full(libc::STDIN_FILENO, space);
-    run(&space[..n]);
+fn read_and_run(from: Stdin, to: Stdout, space: &mut [u8]) -> io::Result<()> {
+    let mut from = from;
+    let n = read_full(&mut from, space)?;
+    let mut to = Output::new(to);
+    run(&mut to, &space[..n]);
+    to.written()
 }
 
-fn main() {
+fn main(rt: HostRuntime) -> io::Result<()> {
     let mut space = [0u8; ROOM];
-    read_and_run(&mut space);
+    read_and_run(rt.stdin(), rt.stdout(), &mut space)
 }

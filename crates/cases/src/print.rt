@@ -2,43 +2,69 @@
 ghost use Rattle.std.specs.Prelude.{◌≡◌};
 ghost use Rattle.cases.specs.Print.{filled_from};
 
-use libc::STDOUT_FILENO;
+use std::io;
+use std::io::{Stdout, Write};
 
 // What a buffer is filled with before a call: a byte that no text has.
 pub const FILLED: u8 = 255;
 
-pub fn say(s: &[u8]) {
-    io::write_all(STDOUT_FILENO, s);
+// Standard output, and what came of the writes to it: behind one that failed nothing is written.
+#[derive(Drop)]
+pub struct Output {
+    stream: Stdout,
+    written: io::Result<()>,
 }
 
-pub fn say_number(n: usize) {
-    io::print_decimal(STDOUT_FILENO, n as u64);
+impl Output {
+    pub fn new(stream: Stdout) -> Output {
+        Output {
+            stream,
+            written: Ok(()),
+        }
+    }
+
+    // What came of all writes: the error of the one that failed.
+    pub fn written(self) -> io::Result<()> {
+        self.written
+    }
+}
+
+pub fn say(to: &mut Output, s: &[u8]) {
+    if to.written.is_ok() {
+        to.written = Write::write_all(&mut to.stream, s);
+    }
+}
+
+pub fn say_number(to: &mut Output, n: usize) {
+    if to.written.is_ok() {
+        to.written = write!(to.stream, "{n}");
+    }
 }
 
 // Whether something holds, as 1 or 0.
-pub fn say_flag(b: bool) {
+pub fn say_flag(to: &mut Output, b: bool) {
     if b {
-        say(b"1");
+        say(to, b"1");
         return;
     }
-    say(b"0");
+    say(to, b"0");
 }
 
 // A byte as two hexadecimal digits.
-fn say_byte(b: u8) {
+fn say_byte(to: &mut Output, b: u8) {
     let digits = b"0123456789abcdef";
     let text = [digits[(b / 16) as usize], digits[(b % 16) as usize]];
-    say(&text);
+    say(to, &text);
 }
 
 // The first n bytes of a buffer, or all of it, in hexadecimal.
-fn say_front(out: &[u8], n: usize) {
+fn say_front(to: &mut Output, out: &[u8], n: usize) {
     let mut i = 0;
     while i < n {
         if out.len() <= i {
             return;
         }
-        say_byte(out[i]);
+        say_byte(to, out[i]);
         i += 1;
     }
 }
@@ -58,22 +84,22 @@ fn is_filled(out: &[u8], from: usize) -> bool
 }
 
 // The mark for the rest of the buffer.
-fn say_rest(kept: bool) {
+fn say_rest(to: &mut Output, kept: bool) {
     if kept {
-        say(b"=");
+        say(to, b"=");
         return;
     }
-    say(b"!");
+    say(to, b"!");
 }
 
 // What a call told and wrote: the number, the length that is told, the front of the buffer of that length in hexadecimal, and whether the rest
 // of the buffer is as before (`=`) or not (`!`), one space apart.
-pub fn say_written(number: usize, size: usize, out: &[u8]) {
-    say_number(number);
-    say(b" ");
-    say_number(size);
-    say(b" ");
-    say_front(out, size);
-    say(b" ");
-    say_rest(is_filled(out, size));
+pub fn say_written(to: &mut Output, number: usize, size: usize, out: &[u8]) {
+    say_number(to, number);
+    say(to, b" ");
+    say_number(to, size);
+    say(to, b" ");
+    say_front(to, out, size);
+    say(to, b" ");
+    say_rest(to, is_filled(out, size));
 }

@@ -7,7 +7,7 @@ ghost use Rattle.chars.specs.Lists.{all};
 pub const HIGHEST_CODE: u8 = 127;
 
 // A class by its name, for the loops that test a whole string.
-#[derive(Drop)]
+#[derive(Clone, Copy)]
 pub enum Class {
     Letter,
     Digit,

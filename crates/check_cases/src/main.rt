@@ -3,14 +3,20 @@
 //
 // Standard input is lines, each the name of a table. Printed of each: 0; 7 and the first bad line; or 8 and what becomes of the witness
 // when both mappings are run on it: `lost` where it is canonical, has a surname (and so is no carrier) and does not come back.
+#![tactic(auto)]
+
 mod print;
 mod witness;
 
-use cases::files::read_file;
+use cases::files::{read_file, read_full};
 use cases::lines::{line, next_line};
 use cases::parts::front;
+use cases::print::Output;
 use print::print_verdict;
 use soundness_check::check::check;
+use std::io;
+use std::io::{Stdin, Stdout};
+use std::rt::Files;
 
 // Standard input, at most; a table with one byte too many.
 const ROOM: usize = 65536;
@@ -18,37 +24,40 @@ const ROOM: usize = 65536;
 const TABLE_ROOM: usize = 65537;
 
 // Checks a table, and prints what came of it.
-fn run_check(table: &[u8]) {
-    print_verdict(table, check(table));
+fn run_check(to: &mut Output, table: &[u8]) {
+    print_verdict(to, table, check(table));
 }
 
 // Checks the table of a name, in the room for it.
-fn run_read(name: &[u8], space: &mut [u8]) {
-    let n = read_file(name, space);
-    run_check(front(space, n));
+fn run_read(rt: &impl Files, to: &mut Output, name: &[u8], space: &mut [u8]) {
+    let n = read_file(rt, name, space);
+    run_check(to, front(space, n));
 }
 
 // Checks the table of a name.
-fn run_table(name: &[u8]) {
+fn run_table(rt: &impl Files, to: &mut Output, name: &[u8]) {
     let mut space = [0u8; TABLE_ROOM];
-    run_read(name, &mut space);
+    run_read(rt, to, name, &mut space);
 }
 
-fn run(s: &[u8]) {
+fn run(rt: &impl Files, to: &mut Output, s: &[u8]) {
     let mut from = 0;
     while from < s.len() {
-        run_table(line(s, from));
+        run_table(rt, to, line(s, from));
         from = next_line(s, from);
     }
 }
 
 // Reads standard input, and runs it.
-fn read_and_run(space: &mut [u8]) {
-    let n = io::read_full(libc::STDIN_FILENO, space);
-    run(&space[..n]);
+fn read_and_run(rt: &impl Files, from: Stdin, to: Stdout, space: &mut [u8]) -> io::Result<()> {
+    let mut from = from;
+    let n = read_full(&mut from, space)?;
+    let mut to = Output::new(to);
+    run(rt, &mut to, &space[..n]);
+    to.written()
 }
 
-fn main() {
+fn main(rt: HostRuntime) -> io::Result<()> {
     let mut space = [0u8; ROOM];
-    read_and_run(&mut space);
+    read_and_run(&rt, rt.stdin(), rt.stdout(), &mut space)
 }

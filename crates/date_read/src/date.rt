@@ -3,14 +3,14 @@ ghost use Rattle.std.specs.Prelude.{◌≡◌, leb, nat_abs};
 ghost use Rattle.date_read.specs.Date.{days_in, is_date, is_day, is_second, is_time, most_offset};
 
 // The second, which may not be told.
-#[derive(Drop)]
+#[derive(Clone, Copy)]
 pub enum Second {
     At(usize),
     Absent,
 }
 
 // Two digits of year; the offset in minutes, negative west of Greenwich.
-#[derive(Drop)]
+#[derive(Clone, Copy)]
 pub struct DateTime {
     pub year: usize,
     pub month: usize,

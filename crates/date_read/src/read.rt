@@ -16,7 +16,7 @@ const NO_NUMBER: usize = 100;
 const NO_OFFSET: i32 = 1440;
 
 // What reading came to.
-#[derive(Drop)]
+#[derive(Clone, Copy)]
 pub enum DateRead {
     Date(DateTime),
     NoDate,

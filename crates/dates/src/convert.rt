@@ -13,7 +13,7 @@ use date_read::date::DateTime;
 use date_read::read::{DateRead, read_date, read_utc};
 
 // Request 6's answers: 0, 10 and 6.
-#[derive(Drop)]
+#[derive(Clone, Copy)]
 pub enum DateAnswer {
     Done,
     NoDate,
@@ -21,7 +21,7 @@ pub enum DateAnswer {
 }
 
 // The answer, and on Done the length of the text; else 0.
-#[derive(Drop)]
+#[derive(Clone, Copy)]
 pub struct DateWritten {
     pub answer: DateAnswer,
     pub size: usize,

@@ -1,4 +1,5 @@
-// The functions for C and for Rust without Rattle. Each slice is a pointer and a length; docs/include/gateway.h says what they do.
+// The functions for C and for Rust without Rattle, which `gateway_c` gives their symbols. Each slice is a pointer and a length there;
+// docs/include/gateway.h says what they do.
 ghost use Rattle.std.specs.Prelude.{◌≡◌, length};
 ghost use Rattle.mailaddr.specs.Tail.{shared_tail};
 ghost use Rattle.table.specs.Lines.{loaded_from};
@@ -19,8 +20,7 @@ use gateway_route::route;
 use gateway_text::read::read_record;
 
 // An address to a record's text in `out`.
-#[unsafe(no_mangle)]
-pub extern "C" fn gateway_to_record(table: &[u8], address: &[u8], out: &mut [u8]) -> usize
+pub fn gateway_to_record(table: &[u8], address: &[u8], out: &mut [u8]) -> usize
     ensures { Exported (address_to_text table.now address.now out.old) result out.new }
 {
     pack_record(to_record(table, address), out)
@@ -28,8 +28,7 @@ pub extern "C" fn gateway_to_record(table: &[u8], address: &[u8], out: &mut [u8]
 
 // A record text to an address in `out`. A text that gives no canonical record gives an empty one, which has the refusals of any that is not
 // canonical.
-#[unsafe(no_mangle)]
-pub extern "C" fn gateway_to_address(table: &[u8], record_text: &[u8], out: &mut [u8]) -> usize
+pub fn gateway_to_address(table: &[u8], record_text: &[u8], out: &mut [u8]) -> usize
     ensures { Exported (text_to_address table.now record_text.now out.old) result out.new }
 {
     let done = read_record(record_text);
@@ -38,24 +37,21 @@ pub extern "C" fn gateway_to_address(table: &[u8], record_text: &[u8], out: &mut
 }
 
 // The check of a table text, and a witness's text in `out`, if it fits.
-#[unsafe(no_mangle)]
-pub extern "C" fn gateway_check(table: &[u8], out: &mut [u8]) -> usize
+pub fn gateway_check(table: &[u8], out: &mut [u8]) -> usize
     ensures { ExportedCheck (loaded_from table.now) out.old result out.new }
 {
     pack_check(check(table), out)
 }
 
 // The length of the tail that two domains share.
-#[unsafe(no_mangle)]
-pub extern "C" fn gateway_shared_tail(first: &[u8], second: &[u8]) -> usize
+pub fn gateway_shared_tail(first: &[u8], second: &[u8]) -> usize
     ensures { result ≡ length (shared_tail first.now second.now) }
 {
     shared_tail(first, second).len()
 }
 
 // The next part of a run of lines.
-#[unsafe(no_mangle)]
-pub extern "C" fn gateway_route(
+pub fn gateway_route(
     table: &[u8],
     over: bool,
     input: &[u8],
@@ -74,48 +70,42 @@ pub extern "C" fn gateway_route(
 }
 
 // X.400's UTCTime to RFC 822's date-time in `out`.
-#[unsafe(no_mangle)]
-pub extern "C" fn gateway_date_to_822(utc: &[u8], out: &mut [u8]) -> usize
+pub fn gateway_date_to_822(utc: &[u8], out: &mut [u8]) -> usize
     ensures { ExportedText (utc_to_date utc.now out.old) result out.new }
 {
     packed_date_to_822(utc, out)
 }
 
 // RFC 822's date-time to X.400's UTCTime in `out`.
-#[unsafe(no_mangle)]
-pub extern "C" fn gateway_date_to_x400(date: &[u8], out: &mut [u8]) -> usize
+pub fn gateway_date_to_x400(date: &[u8], out: &mut [u8]) -> usize
     ensures { ExportedText (date_to_utc date.now out.old) result out.new }
 {
     packed_date_to_x400(date, out)
 }
 
 // A local part's unquoted text in RFC 1137's restricted encoding, in `out`.
-#[unsafe(no_mangle)]
-pub extern "C" fn gateway_restrict(text: &[u8], out: &mut [u8]) -> usize
+pub fn gateway_restrict(text: &[u8], out: &mut [u8]) -> usize
     ensures { ExportedText (restrict_text text.now out.old) result out.new }
 {
     packed_restrict(text, out)
 }
 
 // A text in that encoding back to what it stands for, in `out`.
-#[unsafe(no_mangle)]
-pub extern "C" fn gateway_unrestrict(text: &[u8], out: &mut [u8]) -> usize
+pub fn gateway_unrestrict(text: &[u8], out: &mut [u8]) -> usize
     ensures { ExportedText (unrestrict_text text.now out.old) result out.new }
 {
     packed_unrestrict(text, out)
 }
 
 // The bare address of a header line's mailbox, in `out`.
-#[unsafe(no_mangle)]
-pub extern "C" fn gateway_mailbox(line: &[u8], out: &mut [u8]) -> usize
+pub fn gateway_mailbox(line: &[u8], out: &mut [u8]) -> usize
     ensures { ExportedText (read_mailbox line.now out.old).text result out.new }
 {
     packed_mailbox(line, out)
 }
 
 // Where the phrase of a header line's mailbox stands, in one value.
-#[unsafe(no_mangle)]
-pub extern "C" fn gateway_phrase(line: &[u8]) -> usize
+pub fn gateway_phrase(line: &[u8]) -> usize
     ensures { result ≡ packed_place (phrase_place line.now) }
 {
     packed_phrase(line)

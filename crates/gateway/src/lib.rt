@@ -1,4 +1,6 @@
 // The public face of Lesogrom: every entry point, and the functions for C. None has a `requires`.
+#![tactic(auto)]
+
 pub mod entry;
 pub mod exports;
 pub mod lists;

@@ -1,5 +1,5 @@
 // The functions for C under a list: a table's rows as a lent list of structs over a text. Each lays the rows out as numbers and calls the
-// function over those, since no more can be done with a lent list of structs; docs/include/gateway.h says what they do.
+// function over those; docs/include/gateway.h says what they do.
 ghost use Rattle.rowlist_load.specs.Listed.{listed_from};
 ghost use Rattle.mapping.specs.ToRecord.{to_record_by};
 ghost use Rattle.router.specs.Run.{Routing};
@@ -9,8 +9,7 @@ use gateway_list::packed::{packed_check, packed_route, packed_to_address, packed
 use rowlist::{LIST_ROOM, RowEntry};
 
 // An address to a record's text in `out`.
-#[unsafe(no_mangle)]
-pub extern "C" fn gateway_list_to_record(
+pub fn gateway_list_to_record(
     text: &[u8],
     rows: &[RowEntry],
     address: &[u8],
@@ -25,8 +24,7 @@ pub extern "C" fn gateway_list_to_record(
 }
 
 // A record text to an address in `out`.
-#[unsafe(no_mangle)]
-pub extern "C" fn gateway_list_to_address(
+pub fn gateway_list_to_address(
     text: &[u8],
     rows: &[RowEntry],
     record_text: &[u8],
@@ -41,8 +39,7 @@ pub extern "C" fn gateway_list_to_address(
 }
 
 // The check of a list, and a witness's text in `out`, if it fits.
-#[unsafe(no_mangle)]
-pub extern "C" fn gateway_list_check(text: &[u8], rows: &[RowEntry], out: &mut [u8]) -> usize
+pub fn gateway_list_check(text: &[u8], rows: &[RowEntry], out: &mut [u8]) -> usize
     ensures { ExportedCheck (listed_from text.now rows.now) out.old result out.new }
 {
     let mut numbers = [0usize; LIST_ROOM];
@@ -51,8 +48,7 @@ pub extern "C" fn gateway_list_check(text: &[u8], rows: &[RowEntry], out: &mut [
 }
 
 // The next part of a run of lines.
-#[unsafe(no_mangle)]
-pub extern "C" fn gateway_list_route(
+pub fn gateway_list_route(
     text: &[u8],
     rows: &[RowEntry],
     over: bool,

@@ -1,4 +1,6 @@
 // Dates, for the public face: the entry points, and the same for C with the result in one value.
+#![tactic(auto)]
+
 ghost use Rattle.std.specs.Prelude.{◌≡◌, []};
 ghost use Rattle.dates.specs.Answers.{told};
 ghost use Rattle.dates.specs.Convert.{date_to_utc, utc_to_date};

@@ -1,5 +1,7 @@
 // The results of the mappings and of the check as the functions for C return them: a number and a count in one value, and a text in the lent
 // buffer. The functions under a table text and those under a list share this.
+#![tactic(auto)]
+
 ghost use Rattle.std.specs.Prelude.{◌≡◌, [], ◌≤◌};
 ghost use Rattle.mapping.specs.Answers.{address_bad_line, told_address, told_record};
 ghost use Rattle.soundness.specs.Check.{told_check};

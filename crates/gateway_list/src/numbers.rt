@@ -1,6 +1,5 @@
-// The mappings, the check and the router under a list of n rows, each laid out as five numbers: code that walks numbers is proved like any
-// other, where a lent list of structs has to be taken apart by hand. Each loads the rows into two arrays of its own, and goes on as it does
-// under a table text.
+// The mappings, the check and the router under a list of n rows, each laid out as five numbers. Each loads the rows into two arrays of its
+// own, and goes on as it does under a table text.
 ghost use Rattle.std.specs.Prelude.{◌≡◌, ◌*◌, ◌≤◌, length};
 ghost use Rattle.rowlist.specs.Entries.{entries_of, entry_size};
 ghost use Rattle.rowlist_load.specs.Listed.{listed_from};

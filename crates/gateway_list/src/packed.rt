@@ -1,5 +1,5 @@
-// The same for C: a result in one value, and a text in the lent buffer. No function for C takes or returns an enum, and one over a lent list
-// may only lay the rows out and call on, so what is packed is packed here.
+// The same for C: a result in one value, and a text in the lent buffer. No function for C takes or returns an enum, so what is packed is
+// packed here.
 ghost use Rattle.std.specs.Prelude.{◌*◌, ◌≤◌, length};
 ghost use Rattle.rowlist.specs.Entries.{entries_of, entry_size};
 ghost use Rattle.rowlist_load.specs.Listed.{listed_from};

@@ -1,4 +1,6 @@
 // Mailboxes, for the public face: the entry points, and the same for C with the result in one value.
+#![tactic(auto)]
+
 ghost use Rattle.std.specs.Prelude.{◌≡◌, []};
 ghost use Rattle.mailbox.specs.Answers.{told_place, told_written};
 ghost use Rattle.mailbox.specs.Mailbox.{phrase_place, read_mailbox};

@@ -1,4 +1,6 @@
 // A result in one value, as the functions for C return it, and a text in a buffer where it fits.
+#![tactic(auto)]
+
 ghost use Rattle.std.specs.Prelude.{◌≡◌, [], ◌≤◌, ◌<◌};
 ghost use Rattle.gateway_pack.specs.Filled.{filled};
 ghost use Rattle.gateway_pack.specs.Packed.{most_count, number_limit, packed_count, packed_place, packed_text, place_limit};
@@ -15,6 +17,7 @@ const LENGTH_LIMIT: usize = 1152921504606846976;
 const PLACE_LIMIT: usize = 65536;
 
 // A number with the line that belongs to 7, or the length that belongs to any other.
+#[tactic(auto, unfolding(crate::specs::Packed::packed_count))]
 pub fn pack(number: usize, line: usize, size: usize) -> usize
     requires number_lt_number_limit { number < number_limit }
     requires line_le_most_count { line ≤ most_count }

@@ -1,4 +1,6 @@
 // The restricted encoding, for the public face: the entry points, and the same for C with the result in one value.
+#![tactic(auto)]
+
 ghost use Rattle.std.specs.Prelude.{◌≡◌, []};
 ghost use Rattle.restricted.specs.Answers.{told};
 ghost use Rattle.restricted.specs.Convert.{restrict_text, unrestrict_text};

@@ -1,4 +1,6 @@
 // The router, for the public face: the next part of a run of lines, under a table text.
+#![tactic(auto)]
+
 ghost use Rattle.table.specs.Lines.{loaded_from};
 ghost use Rattle.router.specs.Run.{Routing};
 

@@ -3,7 +3,7 @@
 ghost use Rattle.std.specs.Prelude.{◌≡◌, ◌+◌, ◌≤◌, ◌<◌, drop, get_or, length};
 ghost use Rattle.mailaddr.specs.Answers.{closing_answer};
 ghost use Rattle.mailaddr.specs.Shape.{more};
-ghost use Rattle.lexical.specs.Comment.{comment as commentOf, content as contentOf, content_step as contentStepOf, is_ctext, pair_step};
+ghost use Rattle.lexical.specs.Comment.{comment as comment_of, content as content_of, content_step as content_step_of, is_ctext, pair_step};
 ghost use Rattle.lexical.specs.Tokens.{longest_line};
 
 use crate::space::is_fold;
@@ -14,7 +14,7 @@ use mailaddr::shape::Closing;
 pub const DEEPEST_COMMENT: usize = 8;
 
 // What stands at a place of a comment's content: its end, a comment, a backslash with its byte, a fold, a byte of text, or none of these.
-#[derive(Drop)]
+#[derive(Clone, Copy)]
 pub enum ContentStep {
     Close,
     Open,
@@ -56,7 +56,7 @@ fn pair_step(s: &[u8], i: usize) -> ContentStep
 
 fn content_step(s: &[u8], i: usize) -> ContentStep
     requires { i < length s.now }
-    ensures { result ≡ contentStepOf (get_or s.now i 0) (get_or s.now (i + 1) 0) (get_or s.now (i + 2) 0) }
+    ensures { result ≡ content_step_of (get_or s.now i 0) (get_or s.now (i + 1) 0) (get_or s.now (i + 2) 0) }
 {
     let b = s[i];
     if b == b')' {
@@ -82,7 +82,7 @@ fn content_step(s: &[u8], i: usize) -> ContentStep
 pub(crate) fn comment(s: &[u8], i: usize, levels: usize) -> Closing
     requires i_in_bounds { i < length s.now }
     requires s_len_bound { length s.now ≤ longest_line }
-    ensures { closing_answer result ≡ more i (commentOf levels (drop i s.now)) }
+    ensures { closing_answer result ≡ more i (comment_of levels (drop i s.now)) }
 {
     if levels == 0 {
         return Closing::Never;
@@ -97,7 +97,7 @@ pub(crate) fn comment(s: &[u8], i: usize, levels: usize) -> Closing
 #[cycle(comment_content)]
 fn content(s: &[u8], from: usize, levels: usize) -> Closing
     requires { length s.now ≤ longest_line }
-    ensures { closing_answer result ≡ more from (contentOf 0 levels 0 (drop from s.now)) }
+    ensures { closing_answer result ≡ more from (content_of 0 levels 0 (drop from s.now)) }
 {
     let mut i = from;
     while i < s.len() {

@@ -7,7 +7,7 @@ ghost use Rattle.lexical.specs.Comment.{deepest_comment};
 use crate::comment::DEEPEST_COMMENT;
 
 // What a byte leads to: in a quoted string or not, how many comments are open, and how many bytes behind it are taken.
-#[derive(Drop)]
+#[derive(Clone, Copy)]
 pub struct Nest {
     pub quote: bool,
     pub depth: usize,

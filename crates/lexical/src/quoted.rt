@@ -3,13 +3,13 @@ ghost use Rattle.std.specs.Prelude.{◌≡◌, false, ◌+◌, ◌≤◌, ◌<�
 ghost use Rattle.chars.specs.Write.{Wrote};
 ghost use Rattle.mailaddr.specs.Answers.{closing_answer};
 ghost use Rattle.lexical.specs.Answers.{quoted_end};
-ghost use Rattle.lexical.specs.Quoted.{meaning_in, quoted, quoted_step as quotedStepOf, size_in, text_step};
+ghost use Rattle.lexical.specs.Quoted.{meaning_in, quoted, quoted_step as quoted_step_of, size_in, text_step};
 
 use crate::space::is_fold;
 use mailaddr::shape::{Closing, is_quoted_byte};
 
 // What stands at a place of a quoted string: a fold, its end, a backslash, a byte of its text, or none of these.
-#[derive(Drop)]
+#[derive(Clone, Copy)]
 pub enum QuotedStep {
     Fold,
     Close,
@@ -30,7 +30,7 @@ fn text_step(b: u8) -> QuotedStep
 
 fn quoted_step(s: &[u8], i: usize, escaped: bool) -> QuotedStep
     requires { i < length s.now }
-    ensures { result ≡ quotedStepOf escaped (get_or s.now i 0) (get_or s.now (i + 1) 0) (get_or s.now (i + 2) 0) }
+    ensures { result ≡ quoted_step_of escaped (get_or s.now i 0) (get_or s.now (i + 1) 0) (get_or s.now (i + 2) 0) }
 {
     let b = s[i];
     if is_fold(s, i) {

@@ -10,7 +10,7 @@ use chars::class::is_atom_char;
 use mailaddr::shape::Closing;
 
 // What a token is: an atom, a quoted string, a special, the line's end, or no token.
-#[derive(Drop)]
+#[derive(Clone, Copy)]
 pub enum Kind {
     Atom,
     Quoted,
@@ -20,7 +20,7 @@ pub enum Kind {
 }
 
 // A token and where it stands, from its first byte to behind its last.
-#[derive(Drop)]
+#[derive(Clone, Copy)]
 pub struct Lexeme {
     pub kind: Kind,
     pub start: usize,

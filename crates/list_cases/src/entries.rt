@@ -8,7 +8,7 @@ use chars::parts::part_end;
 use rowlist::{RowEntry, how_many, put_entry};
 
 // How many entries were laid out, and where the line behind them starts.
-#[derive(Drop)]
+#[derive(Clone, Copy)]
 pub(crate) struct Entries {
     pub(crate) count: usize,
     pub(crate) next: usize,

@@ -5,23 +5,33 @@ ghost use Rattle.table_load.specs.Load.{Kept};
 use crate::print::print_found;
 use cases::lines::{line, next_line};
 use cases::parts::rest;
+use cases::print::Output;
 use table::load::Loaded;
 use table::rows::Key;
 use table_lookup::search::find;
 
 // Looks a domain up, or levels, which stand as a path does, a tab between each two.
-fn run_query(kind: u8, line: &[u8], text: &[u8], to_path: &[usize], to_domain: &[usize], t: Loaded)
+fn run_query(
+    to: &mut Output,
+    kind: u8,
+    line: &[u8],
+    text: &[u8],
+    to_path: &[usize],
+    to_domain: &[usize],
+    t: Loaded,
+)
     requires { Kept text.now to_path.now to_domain.now t }
 {
     if kind == b'D' {
-        print_found(find(text, to_path, t.to_path, Key::Domain, line));
+        print_found(to, find(text, to_path, t.to_path, Key::Domain, line));
     } else {
-        print_found(find(text, to_domain, t.to_domain, Key::Path, line));
+        print_found(to, find(text, to_domain, t.to_domain, Key::Path, line));
     }
 }
 
 // Runs the look-ups from `at` on up to the next list's text, and returns where that stands.
 pub(crate) fn run_queries(
+    to: &mut Output,
     s: &[u8],
     at: usize,
     text: &[u8],
@@ -38,7 +48,15 @@ pub(crate) fn run_queries(
         if kind == b'T' {
             return from;
         }
-        run_query(kind, rest(line(s, from), 2), text, to_path, to_domain, t);
+        run_query(
+            to,
+            kind,
+            rest(line(s, from), 2),
+            text,
+            to_path,
+            to_domain,
+            t,
+        );
         from = next_line(s, from);
     }
     from

@@ -8,6 +8,8 @@
 //   L             load the list: prints 7 and the first bad entry, or 0 and how many rows go each way
 //   D DOMAIN      the number of the row with the longest domain that is a tail of it, or -
 //   P LEVELS      the number of the row with the longest path that begins these eight levels, or -
+#![tactic(auto)]
+
 mod entries;
 mod lookups;
 mod print;
@@ -15,14 +17,18 @@ mod print;
 ghost use Rattle.std.specs.Prelude.{◌*◌, ◌<◌, ◌≤◌, length};
 ghost use Rattle.rowlist.specs.Entries.{entry_size};
 
+use cases::files::read_full;
 use cases::lines::{line, next_line};
 use cases::parts::{front, rest};
+use cases::print::Output;
 use cases::read::unhex;
 use entries::read_entries;
 use lookups::run_queries;
 use print::{print_malformed, print_rows};
 use rowlist::LIST_ROOM;
 use rowlist_load::load::load_entries;
+use std::io;
+use std::io::{Stdin, Stdout};
 use table::load::TableRead;
 use table::rows::ROWS_SIZE;
 
@@ -35,7 +41,14 @@ const TEXT_ROOM: usize = 131072;
 const BEHIND: u8 = b'a';
 
 // Loads a list of n entries, runs the look-ups from `at` on, and returns where the next list's text stands.
-fn run_loaded(s: &[u8], at: usize, text: &[u8], numbers: &[usize], n: usize) -> usize
+fn run_loaded(
+    to: &mut Output,
+    s: &[u8],
+    at: usize,
+    text: &[u8],
+    numbers: &[usize],
+    n: usize,
+) -> usize
     requires { n * entry_size ≤ length numbers.now }
     ensures { at ≤ result }
 {
@@ -43,11 +56,11 @@ fn run_loaded(s: &[u8], at: usize, text: &[u8], numbers: &[usize], n: usize) -> 
     let mut to_domain = [0usize; ROWS_SIZE];
     match load_entries(text, numbers, n, &mut to_path, &mut to_domain) {
         TableRead::Table(t) => {
-            print_rows(t.to_path, t.to_domain);
-            run_queries(s, at, text, &to_path, &to_domain, t)
+            print_rows(to, t.to_path, t.to_domain);
+            run_queries(to, s, at, text, &to_path, &to_domain, t)
         }
         TableRead::Malformed(entry) => {
-            print_malformed(entry);
+            print_malformed(to, entry);
             at
         }
     }
@@ -55,46 +68,49 @@ fn run_loaded(s: &[u8], at: usize, text: &[u8], numbers: &[usize], n: usize) -> 
 
 // Reads the entries from `at` on, loads them as a list over a text, runs the look-ups that follow, and returns where the next list's text
 // stands.
-fn run_list(s: &[u8], at: usize, text: &[u8]) -> usize
+fn run_list(to: &mut Output, s: &[u8], at: usize, text: &[u8]) -> usize
     ensures { at ≤ result }
 {
     let mut numbers = [0usize; LIST_ROOM];
     let read = read_entries(s, at, &mut numbers);
-    run_loaded(s, read.next, text, &numbers, read.count)
+    run_loaded(to, s, read.next, text, &numbers, read.count)
 }
 
 // Reads the text that the line at `at` spells into the room for it, runs the list over it, and returns where the next list's text stands.
-fn run_text(s: &[u8], at: usize, space: &mut [u8]) -> usize
+fn run_text(to: &mut Output, s: &[u8], at: usize, space: &mut [u8]) -> usize
     requires { at < length s.now }
     ensures { at < result }
 {
     let n = unhex(space, rest(line(s, at), 2));
-    run_list(s, next_line(s, at), front(space, n))
+    run_list(to, s, next_line(s, at), front(space, n))
 }
 
 // Runs the list whose text the line at `at` spells, and returns where the next list's text stands.
-fn run_case(s: &[u8], at: usize) -> usize
+fn run_case(to: &mut Output, s: &[u8], at: usize) -> usize
     requires { at < length s.now }
     ensures { at < result }
 {
     let mut space = [BEHIND; TEXT_ROOM];
-    run_text(s, at, &mut space)
+    run_text(to, s, at, &mut space)
 }
 
-fn run(s: &[u8]) {
+fn run(to: &mut Output, s: &[u8]) {
     let mut at = 0;
     while at < s.len() {
-        at = run_case(s, at);
+        at = run_case(to, s, at);
     }
 }
 
 // Reads standard input, and runs it.
-fn read_and_run(space: &mut [u8]) {
-    let n = io::read_full(libc::STDIN_FILENO, space);
-    run(&space[..n]);
+fn read_and_run(from: Stdin, to: Stdout, space: &mut [u8]) -> io::Result<()> {
+    let mut from = from;
+    let n = read_full(&mut from, space)?;
+    let mut to = Output::new(to);
+    run(&mut to, &space[..n]);
+    to.written()
 }
 
-fn main() {
+fn main(rt: HostRuntime) -> io::Result<()> {
     let mut space = [0u8; ROOM];
-    read_and_run(&mut space);
+    read_and_run(rt.stdin(), rt.stdout(), &mut space)
 }

@@ -43,7 +43,7 @@ fn char_of(letter: u8) -> u8
 }
 
 // A character as it is coded: up to five bytes.
-#[derive(Drop)]
+#[derive(Clone, Copy)]
 struct Coded {
     len: usize,
     bytes: [u8; 5],
@@ -130,7 +130,7 @@ pub fn put_coded(dst: &mut [u8], s: &[u8]) -> usize
 }
 
 // A decoded text's length, or that the value does not decode.
-#[derive(Drop)]
+#[derive(Clone, Copy)]
 pub enum Decoded {
     Length(usize),
     Undecoded,
@@ -138,7 +138,7 @@ pub enum Decoded {
 
 // What a group in parentheses, or another character, stands for, and how many bytes it takes; 0 of them where a parenthesis stands
 // outside a group.
-#[derive(Drop)]
+#[derive(Clone, Copy)]
 struct Group {
     char: u8,
     len: usize,

@@ -13,21 +13,21 @@ pub const LONGEST_ADDRESS: usize = 2304;
 
 // Where the `@` of an address stands: the local part is before it and the domain behind it; and whether the local part is a
 // quoted string.
-#[derive(Drop)]
+#[derive(Clone, Copy)]
 pub struct Parted {
     pub at: usize,
     pub quoted: bool,
 }
 
 // An address of the accepted shape, or document 01's refusals 2 and 1.
-#[derive(Drop)]
+#[derive(Clone, Copy)]
 pub enum ShapeRead {
     Address(Parted),
     TooLong,
     NoShape,
 }
 
-#[derive(Drop)]
+#[derive(Clone, Copy)]
 pub enum Closing {
     At(usize),
     Never,

@@ -12,7 +12,7 @@ use lexical::nesting::nests_too_deep;
 pub const LONGEST_LINE: usize = 4096;
 
 // Request 2's answers: 0, 2, 9, 1 and 6.
-#[derive(Drop)]
+#[derive(Clone, Copy)]
 pub enum MailboxAnswer {
     Done,
     TooLong,
@@ -22,7 +22,7 @@ pub enum MailboxAnswer {
 }
 
 // The answer, and on Done the length of the bare address and where the phrase stands; else 0.
-#[derive(Drop)]
+#[derive(Clone, Copy)]
 pub struct MailboxWritten {
     pub answer: MailboxAnswer,
     pub size: usize,

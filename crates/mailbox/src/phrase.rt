@@ -12,14 +12,14 @@ use mailbox_address::read::{SpecRead, addr_spec, is_special, is_word};
 use mailbox_address::route::route_addr;
 
 // Where a phrase ends, and the token behind it.
-#[derive(Drop)]
+#[derive(Clone, Copy)]
 pub struct PhraseRead {
     pub end: usize,
     pub next: Lexeme,
 }
 
 // Where a phrase stands in its line.
-#[derive(Drop)]
+#[derive(Clone, Copy)]
 pub struct PhrasePlace {
     pub start: usize,
     pub size: usize,
@@ -27,7 +27,7 @@ pub struct PhrasePlace {
 
 // A mailbox: whether the line is one, the length of its local part's text, that of both texts, whether its local part has a quoted string, and
 // where its phrase stands.
-#[derive(Drop)]
+#[derive(Clone, Copy)]
 pub struct MailboxRead {
     pub found: bool,
     pub local: usize,

@@ -12,7 +12,7 @@ use lexical::token::{Kind, Lexeme, next_token};
 
 // Words joined by dots: whether they stand there, the length of the buffer's front with their text, whether one is a quoted string, and the
 // token behind them.
-#[derive(Drop)]
+#[derive(Clone, Copy)]
 pub struct DottedRead {
     pub found: bool,
     pub size: usize,
@@ -21,7 +21,7 @@ pub struct DottedRead {
 }
 
 // A word written: the length of the buffer's front with it, and the token behind it.
-#[derive(Drop)]
+#[derive(Clone, Copy)]
 pub struct WordPut {
     pub size: usize,
     pub next: Lexeme,
@@ -29,7 +29,7 @@ pub struct WordPut {
 
 // An addr-spec: whether it stands there, the length of the local part's text, that of both texts, whether the local part has a quoted string,
 // and the token behind it.
-#[derive(Drop)]
+#[derive(Clone, Copy)]
 pub struct SpecRead {
     pub found: bool,
     pub local: usize,

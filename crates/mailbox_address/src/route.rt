@@ -10,7 +10,7 @@ use lexical::token::{Kind, Lexeme, next_token};
 
 // Where in a route a token stands: where an element may begin, none or one having been there, where a sub-domain must stand, or behind one; or
 // that the route is over, or none.
-#[derive(Drop)]
+#[derive(Clone, Copy)]
 pub enum RouteState {
     Start,
     Element,
@@ -21,7 +21,7 @@ pub enum RouteState {
 }
 
 // A route: whether it stands there, and the token behind it.
-#[derive(Drop)]
+#[derive(Clone, Copy)]
 pub struct RouteRead {
     pub found: bool,
     pub next: Lexeme,

@@ -1,7 +1,7 @@
 // One case: a line read as a mailbox, in a buffer of a length.
 ghost use Rattle.std.specs.Prelude.{◌≤◌};
 
-use cases::print::{FILLED, say, say_number, say_written};
+use cases::print::{FILLED, Output, say, say_number, say_written};
 use cases::read::{LARGEST, number, unhex};
 use mailbox::entry::{MailboxWritten, mailbox_number, phrase_place, read_mailbox};
 use mailbox::phrase::PhrasePlace;
@@ -10,44 +10,44 @@ use mailbox::phrase::PhrasePlace;
 const LINE: usize = 4200;
 
 // Where a phrase stands.
-fn print_place(place: PhrasePlace) {
-    say(b" ");
-    say_number(place.start);
-    say(b" ");
-    say_number(place.size);
+fn print_place(to: &mut Output, place: PhrasePlace) {
+    say(to, b" ");
+    say_number(to, place.start);
+    say(to, b" ");
+    say_number(to, place.size);
 }
 
-fn print_read(done: MailboxWritten, out: &[u8]) {
+fn print_read(to: &mut Output, done: MailboxWritten, out: &[u8]) {
     let answer = done.answer;
-    say_written(mailbox_number(answer), done.size, out);
-    print_place(done.phrase);
+    say_written(to, mailbox_number(answer), done.size, out);
+    print_place(to, done.phrase);
 }
 
-fn run_into(line: &[u8], out: &mut [u8]) {
+fn run_into(to: &mut Output, line: &[u8], out: &mut [u8]) {
     let done = read_mailbox(line, out);
-    print_read(done, out);
-    print_place(phrase_place(line));
-    say(b"\n");
+    print_read(to, done, out);
+    print_place(to, phrase_place(line));
+    say(to, b"\n");
 }
 
 // A case in a buffer of n bytes.
-fn run_case(line: &[u8], n: usize)
+fn run_case(to: &mut Output, line: &[u8], n: usize)
     requires { n ≤ 9999 }
 {
     let mut out = [FILLED; LARGEST];
-    run_into(line, &mut out[..n]);
+    run_into(to, line, &mut out[..n]);
 }
 
 // The digits at the front of a case, and the line in hexadecimal.
-fn run_spelt(digits: &[u8], spelt: &[u8]) {
+fn run_spelt(to: &mut Output, digits: &[u8], spelt: &[u8]) {
     let mut line = [0u8; LINE];
     let n = unhex(&mut line, spelt);
-    run_case(&line[..n], number(digits));
+    run_case(to, &line[..n], number(digits));
 }
 
-pub(crate) fn run_line(case: &[u8]) {
+pub(crate) fn run_line(to: &mut Output, case: &[u8]) {
     if case.len() < 5 {
         return;
     }
-    run_spelt(&case[0..4], &case[5..]);
+    run_spelt(to, &case[0..4], &case[5..]);
 }

@@ -6,29 +6,38 @@
 //   0005 LINE
 // Printed of each: the number, the length that is told, the front of the buffer of that length in hexadecimal, whether the rest of the
 // buffer is as before (`=`) or not (`!`), the phrase's start and its length, and both once more as `phrase_place` tells them, one space apart.
+#![tactic(auto)]
+
 mod case;
 
 use case::run_line;
+use cases::files::read_full;
 use cases::lines::{line, next_line};
+use cases::print::Output;
+use std::io;
+use std::io::{Stdin, Stdout};
 
 // Standard input, at most.
 const ROOM: usize = 1048576;
 
-fn run(s: &[u8]) {
+fn run(to: &mut Output, s: &[u8]) {
     let mut from = 0;
     while from < s.len() {
-        run_line(line(s, from));
+        run_line(to, line(s, from));
         from = next_line(s, from);
     }
 }
 
 // Reads standard input, and runs it.
-fn read_and_run(space: &mut [u8]) {
-    let n = io::read_full(libc::STDIN_FILENO, space);
-    run(&space[..n]);
+fn read_and_run(from: Stdin, to: Stdout, space: &mut [u8]) -> io::Result<()> {
+    let mut from = from;
+    let n = read_full(&mut from, space)?;
+    let mut to = Output::new(to);
+    run(&mut to, &space[..n]);
+    to.written()
 }
 
-fn main() {
+fn main(rt: HostRuntime) -> io::Result<()> {
     let mut space = [0u8; ROOM];
-    read_and_run(&mut space);
+    read_and_run(rt.stdin(), rt.stdout(), &mut space)
 }

@@ -8,14 +8,14 @@ use oraddr::record::Record;
 use table::line::Row;
 
 // The length of a text that was written, or that a carrier has no address.
-#[derive(Drop)]
+#[derive(Clone, Copy)]
 pub enum Written {
     Length(usize),
     NoAddress,
 }
 
 // Document 01's answers: 0, 4, 5, 6, and 7 with the number of the first bad line.
-#[derive(Drop)]
+#[derive(Clone, Copy)]
 pub enum AddressAnswer {
     Done,
     NotCanonical,
@@ -25,7 +25,7 @@ pub enum AddressAnswer {
 }
 
 // The answer, and on Done the length of the text; else 0.
-#[derive(Drop)]
+#[derive(Clone, Copy)]
 pub struct ToAddress {
     pub answer: AddressAnswer,
     pub size: usize,
@@ -33,7 +33,7 @@ pub struct ToAddress {
 
 // How a record goes out: a row whose domain it is put under, and the levels in front of that domain, `more` of them behind the
 // first `own`.
-#[derive(Drop)]
+#[derive(Clone, Copy)]
 pub struct Route {
     pub row: Row,
     pub own: usize,
@@ -86,7 +86,7 @@ pub fn place(out: &mut [u8], s: &[u8]) -> ToAddress
 }
 
 // Document 01's answers: 0, 1, 2, 3, and 7 with the number of the first bad line.
-#[derive(Drop)]
+#[derive(Clone, Copy)]
 pub enum RecordAnswer {
     Done,
     NoShape,
@@ -96,7 +96,7 @@ pub enum RecordAnswer {
 }
 
 // The answer, and on Done the record; else an empty one.
-#[derive(Drop)]
+#[derive(Clone, Copy)]
 pub struct ToRecord {
     pub answer: RecordAnswer,
     pub record: Record,

@@ -8,22 +8,32 @@
 //   R BYTES    four digits and the parts of a record: the same
 // Bytes are written as pairs of hexadecimal digits. What is printed of a record: the first bad line or 0, a tab, and what the call told and
 // wrote. How a part is written is said in records.rt.
+#![tactic(auto)]
+
 mod print;
 mod records;
 mod run;
 
+use cases::files::read_full;
+use cases::print::Output;
 use run::run;
+use std::io;
+use std::io::{Stdin, Stdout};
+use std::rt::Files;
 
 // Standard input, at most.
 const ROOM: usize = 2097152;
 
 // Reads standard input, and runs it.
-fn read_and_run(space: &mut [u8]) {
-    let n = io::read_full(libc::STDIN_FILENO, space);
-    run(&space[..n]);
+fn read_and_run(rt: &impl Files, from: Stdin, to: Stdout, space: &mut [u8]) -> io::Result<()> {
+    let mut from = from;
+    let n = read_full(&mut from, space)?;
+    let mut to = Output::new(to);
+    run(rt, &mut to, &space[..n]);
+    to.written()
 }
 
-fn main() {
+fn main(rt: HostRuntime) -> io::Result<()> {
     let mut space = [0u8; ROOM];
-    read_and_run(&mut space);
+    read_and_run(&rt, rt.stdin(), rt.stdout(), &mut space)
 }

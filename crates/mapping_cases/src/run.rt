@@ -6,12 +6,13 @@ use crate::records::filled;
 use cases::files::read_file;
 use cases::lines::{line, next_line};
 use cases::parts::{front, rest};
-use cases::print::{FILLED, say};
+use cases::print::{FILLED, Output, say};
 use cases::read::{LARGEST, number, unhex};
 use mapping_to_address::to_address::record_to_address;
 use mapping_to_record::to_record::address_to_record;
 use oraddr::record::Record;
 use ortext_read::read::read_text;
+use std::rt::Files;
 
 // A table with one byte too many; a line's bytes.
 const TABLE_ROOM: usize = 65537;
@@ -28,40 +29,40 @@ fn record_of(tag: u8, s: &[u8]) -> Record {
 }
 
 // A record to an address, in a buffer.
-fn run_into(table: &[u8], tag: u8, s: &[u8], out: &mut [u8]) {
+fn run_into(to: &mut Output, table: &[u8], tag: u8, s: &[u8], out: &mut [u8]) {
     let r = record_to_address(table, record_of(tag, s), out);
-    print_to_address(r, out);
+    print_to_address(to, r, out);
 }
 
 // A record to an address, in a buffer of n bytes.
-fn run_record(table: &[u8], tag: u8, s: &[u8], n: usize)
+fn run_record(to: &mut Output, table: &[u8], tag: u8, s: &[u8], n: usize)
     requires { n ≤ 9999 }
 {
     let mut out = [FILLED; LARGEST];
-    run_into(table, tag, s, &mut out[..n]);
+    run_into(to, table, tag, s, &mut out[..n]);
 }
 
-fn run_case(table: &[u8], tag: u8, s: &[u8]) {
+fn run_case(to: &mut Output, table: &[u8], tag: u8, s: &[u8]) {
     if tag == b'A' {
-        print_to_record(address_to_record(table, s));
+        print_to_record(to, address_to_record(table, s));
         return;
     }
-    run_record(table, tag, rest(s, 4), number(s));
+    run_record(to, table, tag, rest(s, 4), number(s));
 }
 
 // One line under a table.
-fn run_line(table: &[u8], case: &[u8]) {
+fn run_line(to: &mut Output, table: &[u8], case: &[u8]) {
     if case.len() == 0 {
         return;
     }
     let mut bytes = [0u8; LINE_ROOM];
     let n = unhex(&mut bytes, rest(case, 2));
-    run_case(table, case[0], &bytes[..n]);
-    say(b"\n");
+    run_case(to, table, case[0], &bytes[..n]);
+    say(to, b"\n");
 }
 
 // Runs the lines from `at` on up to the next table's, and returns where that starts.
-fn run_lines(s: &[u8], at: usize, table: &[u8]) -> usize
+fn run_lines(to: &mut Output, s: &[u8], at: usize, table: &[u8]) -> usize
     ensures { at ≤ result }
 {
     let mut next = at;
@@ -69,7 +70,7 @@ fn run_lines(s: &[u8], at: usize, table: &[u8]) -> usize
         if s[next] == b'T' {
             return next;
         }
-        run_line(table, line(s, next));
+        run_line(to, table, line(s, next));
         next = next_line(s, next);
     }
     next
@@ -77,26 +78,26 @@ fn run_lines(s: &[u8], at: usize, table: &[u8]) -> usize
 
 // Reads the table that the line at `at` names into the room for it, runs the lines that follow it, and returns where the next table's line
 // starts.
-fn run_read(s: &[u8], at: usize, space: &mut [u8]) -> usize
+fn run_read(rt: &impl Files, to: &mut Output, s: &[u8], at: usize, space: &mut [u8]) -> usize
     requires { at < length s.now }
     ensures { at < result }
 {
-    let n = read_file(rest(line(s, at), 2), space);
-    run_lines(s, next_line(s, at), front(space, n))
+    let n = read_file(rt, rest(line(s, at), 2), space);
+    run_lines(to, s, next_line(s, at), front(space, n))
 }
 
 // Runs the table that the line at `at` names, and returns where the next table's line starts.
-fn run_table(s: &[u8], at: usize) -> usize
+fn run_table(rt: &impl Files, to: &mut Output, s: &[u8], at: usize) -> usize
     requires { at < length s.now }
     ensures { at < result }
 {
     let mut space = [0u8; TABLE_ROOM];
-    run_read(s, at, &mut space)
+    run_read(rt, to, s, at, &mut space)
 }
 
-pub(crate) fn run(s: &[u8]) {
+pub(crate) fn run(rt: &impl Files, to: &mut Output, s: &[u8]) {
     let mut at = 0;
     while at < s.len() {
-        at = run_table(s, at);
+        at = run_table(rt, to, s, at);
     }
 }

@@ -21,7 +21,8 @@ pub const ENDS_ROOM: usize = LEVELS + 1;
 fn put_level(dst: &mut [u8], at: usize, rec: Record, k: usize) -> usize
     requires k_lt_level_count { k < level_count }
     requires bound_of_in_bounds { at + bound_of O ≤ length dst.old }
-    ensures { Wrote dst.old at (get_or (levels (view rec)) k []) result dst.new }
+    ensures wrote { Wrote dst.old at (get_or (levels (view rec)) k []) result dst.new }
+    ensures short { length (get_or (levels (view rec)) k []) ≤ bound_of O }
 {
     let value = rec.level(k);
     let n = value.size();

@@ -10,7 +10,7 @@ use crate::record::Record;
 use crate::value::{DdType, DdValue, DomainDefined, OrgUnit, Value};
 
 // An attribute that a record has once.
-#[derive(Drop)]
+#[derive(Clone, Copy)]
 pub enum Attribute {
     C,
     Admd,
@@ -24,14 +24,14 @@ pub enum Attribute {
 }
 
 // The answer to an addition: done, document 01's number 0, or refused, its number 4.
-#[derive(Drop)]
+#[derive(Clone, Copy)]
 pub enum Added {
     Done,
     Refused,
 }
 
 // The record after an addition, or the record as it was where it is refused.
-#[derive(Drop)]
+#[derive(Clone, Copy)]
 pub struct Addition {
     pub record: Record,
     pub answer: Added,

@@ -9,26 +9,26 @@ use crate::bounds::{DD_TYPE_ROOM, DD_VALUE_ROOM, MOST, OU_ROOM, OWN_LEVELS, SING
 use crate::value::{DdType, DdValue, DomainDefined, OrgUnit, Value, held, within};
 
 // The attributes that a record has once, by their numbers in the table of bounds.
-#[derive(Drop)]
+#[derive(Clone, Copy)]
 pub struct Singles {
     pub values: [Value; SINGLES],
 }
 
 // The units, most significant first.
-#[derive(Drop)]
+#[derive(Clone, Copy)]
 pub struct Units {
     pub count: usize,
     pub names: [OrgUnit; MOST],
 }
 
 // The domain defined attributes, in order.
-#[derive(Drop)]
+#[derive(Clone, Copy)]
 pub struct Dds {
     pub count: usize,
     pub items: [DomainDefined; MOST],
 }
 
-#[derive(Drop)]
+#[derive(Clone, Copy)]
 pub struct Record {
     pub singles: Singles,
     pub units: Units,

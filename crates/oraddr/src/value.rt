@@ -1,39 +1,39 @@
 // The texts of a record, by value: a length and the room for the longest. The bytes past the length are 0 in every one
 // that is made here.
 ghost use Rattle.std.specs.Prelude.{◌≡◌, ◌≤◌, min, length, take};
-ghost use Rattle.oraddr.specs.Bounds.{bound_of, DD-TYPE, DD-VALUE, O, OU};
+ghost use Rattle.oraddr.specs.Bounds.{bound_of, dd_type, dd_value, O, OU};
 ghost use Rattle.oraddr.specs.View.{dd_value_of, dd_value_view, kind_of, kind_view, org_unit_of, unit_view, value_of, value_view};
 
 use crate::bounds::{DD_TYPE_ROOM, DD_VALUE_ROOM, OU_ROOM, VALUE_ROOM};
 use chars::write::put;
 
 // The value of an attribute that a record has once.
-#[derive(Drop)]
+#[derive(Clone, Copy)]
 pub struct Value {
     pub len: usize,
     pub bytes: [u8; VALUE_ROOM],
 }
 
-#[derive(Drop)]
+#[derive(Clone, Copy)]
 pub struct OrgUnit {
     pub len: usize,
     pub bytes: [u8; OU_ROOM],
 }
 
-#[derive(Drop)]
+#[derive(Clone, Copy)]
 pub struct DdType {
     pub len: usize,
     pub bytes: [u8; DD_TYPE_ROOM],
 }
 
-#[derive(Drop)]
+#[derive(Clone, Copy)]
 pub struct DdValue {
     pub len: usize,
     pub bytes: [u8; DD_VALUE_ROOM],
 }
 
 // A domain defined attribute.
-#[derive(Drop)]
+#[derive(Clone, Copy)]
 pub struct DomainDefined {
     pub kind: DdType,
     pub value: DdValue,
@@ -93,7 +93,7 @@ impl OrgUnit {
 
 impl DdType {
     pub fn of(text: &[u8]) -> DdType
-        requires { length text.now ≤ bound_of DD-TYPE }
+        requires { length text.now ≤ bound_of dd_type }
         ensures { result ≡ kind_of text.now }
     {
         let mut bytes = [0u8; DD_TYPE_ROOM];
@@ -110,7 +110,7 @@ impl DdType {
 
 impl DdValue {
     pub fn of(text: &[u8]) -> DdValue
-        requires { length text.now ≤ bound_of DD-VALUE }
+        requires { length text.now ≤ bound_of dd_value }
         ensures { result ≡ dd_value_of text.now }
     {
         let mut bytes = [0u8; DD_VALUE_ROOM];

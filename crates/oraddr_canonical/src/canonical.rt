@@ -2,7 +2,7 @@
 ghost use Rattle.std.specs.Prelude.{◌≡◌, ◌&&◌, ◌<◌, leb, length, take};
 ghost use Rattle.chars.specs.Lists.{non_empty};
 ghost use Rattle.oraddr.specs.Attributes.{single_of};
-ghost use Rattle.oraddr.specs.Bounds.{O as O-BOUND, OU as OU-BOUND, bound_of, entries, is_value, single_count};
+ghost use Rattle.oraddr.specs.Bounds.{O as o_bound, OU as ou_bound, bound_of, entries, is_value, single_count};
 ghost use Rattle.oraddr.specs.Canonical.{canonical_dds, canonical_record, canonical_singles, canonical_units, identified, is_dd, is_unit, kept, names_with_surname};
 ghost use Rattle.oraddr.specs.View.{dd_in_range, dd_view, unit_view, value_view, view};
 
@@ -28,7 +28,7 @@ fn is_held(k: usize, room: &[u8], len: usize) -> bool
 // In range, and absent or by the rule of the attribute with the number k.
 fn is_kept(k: usize, value: Value) -> bool
     requires { k < single_count }
-    ensures { result ≡ (leb value.len (bound_of O-BOUND) && kept k (value_view value)) }
+    ensures { result ≡ (leb value.len (bound_of o_bound) && kept k (value_view value)) }
 {
     let len = value.len;
     if len == 0 {
@@ -42,7 +42,7 @@ fn is_kept(k: usize, value: Value) -> bool
 }
 
 fn is_unit(name: OrgUnit) -> bool
-    ensures { result ≡ (leb name.len (bound_of OU-BOUND) && is_unit (unit_view name)) }
+    ensures { result ≡ (leb name.len (bound_of ou_bound) && is_unit (unit_view name)) }
 {
     let bytes = name.bytes;
     is_held(OU, &bytes, name.len)

@@ -1,5 +1,7 @@
 // The program of document 01, "The program `orroute`": reads `table.tsv` and standard input, and writes an answer for each line. What is
 // answered is the router's; this program moves bytes.
+#![tactic(auto)]
+
 mod files;
 
 ghost use Rattle.std.specs.Prelude.{◌≡◌, ◌+◌, ◌-◌, ◌<◌, ◌≤◌, length, take, drop};
@@ -9,8 +11,8 @@ ghost use Rattle.router_line.specs.Line.{answer_room, longest_line};
 ghost use Rattle.orroute.specs.Run.{Advancing, Answering, Stepping, stopped};
 
 use files::{Got, read_some, read_table, write_out};
-use libc::STDIN_FILENO;
 use router::run::{Routed, open, route};
+use std::io::{Error, Stderr, Stdin, Stdout, Write};
 use table::load::TableRead;
 use table::rows::ROWS_SIZE;
 
@@ -23,9 +25,17 @@ const INPUT_ROOM: usize = 65536;
 
 const OUTPUT_ROOM: usize = 262144;
 
+// The standard streams.
+#[derive(Clone, Copy)]
+struct Streams {
+    input: Stdin,
+    output: Stdout,
+    error: Stderr,
+}
+
 // What waits at the front of the input buffer: how many bytes, and whether they begin within a line over the limit. `ended` says that there
 // is nothing more to do, `failed` that this is so because a read or a write failed.
-#[derive(Drop)]
+#[derive(Clone, Copy)]
 struct Waiting {
     over: bool,
     size: usize,
@@ -41,19 +51,25 @@ const STOPPED: Waiting = Waiting {
     failed: true,
 };
 
+// Says what failed, and why. If that fails as well, nobody is left to tell.
+fn fail(to: Stderr, what: &str, e: Error) {
+    let mut to = to;
+    let _ = writeln!(to, "{what}: {e}");
+}
+
 // A read failed: says so.
-fn fail_input() -> Waiting
+fn fail_input(to: Stderr, e: Error) -> Waiting
     ensures { result ≡ stopped }
 {
-    os::fail(b"standard input");
+    fail(to, "standard input", e);
     STOPPED
 }
 
 // A write failed: says so.
-fn fail_output() -> Waiting
+fn fail_output(to: Stderr, e: Error) -> Waiting
     ensures { result ≡ stopped }
 {
-    os::fail(b"standard output");
+    fail(to, "standard output", e);
     STOPPED
 }
 
@@ -104,6 +120,7 @@ fn advance(
 
 // Answers all lines of the first `size` bytes that can be answered, and leaves the rest at the front: no more than a line may have.
 fn answer(
+    streams: Streams,
     text: &[u8],
     to_path: &[usize],
     to_domain: &[usize],
@@ -126,8 +143,8 @@ fn answer(
     while moved {
         let done = advance(text, to_path, to_domain, read, input, over, size, last, out);
         let n = done.written;
-        if !write_out(&out[..n]) {
-            return fail_output();
+        if let Err(e) = write_out(streams.output, &out[..n]) {
+            return fail_output(streams.error, e);
         }
         over = done.over;
         size -= done.taken;
@@ -143,6 +160,7 @@ fn answer(
 
 // Reads once behind what waits, and answers what can be. The buffer has room behind it, so that a read of nothing is the end.
 fn step(
+    streams: Streams,
     text: &[u8],
     to_path: &[usize],
     to_domain: &[usize],
@@ -159,8 +177,10 @@ fn step(
         (take left.size input.old) result (take result.size input.new) }
 {
     let size = left.size;
-    match read_some(STDIN_FILENO, &mut input[size..]) {
+    let mut from = streams.input;
+    match read_some(&mut from, &mut input[size..]) {
         Got::Bytes(n) => answer(
+            streams,
             text,
             to_path,
             to_domain,
@@ -171,12 +191,12 @@ fn step(
             n == 0,
             out,
         ),
-        Got::Failed => fail_input(),
+        Got::Failed(e) => fail_input(streams.error, e),
     }
 }
 
 // Reads and answers until the input ends. A proved loop has to end as well, so it counts down from a number that no run uses up.
-fn run(text: &[u8], to_path: &[usize], to_domain: &[usize], read: TableRead)
+fn run(streams: Streams, text: &[u8], to_path: &[usize], to_domain: &[usize], read: TableRead)
     requires { Ready text.now to_path.now to_domain.now read }
 {
     let mut input = [0u8; INPUT_ROOM];
@@ -189,7 +209,9 @@ fn run(text: &[u8], to_path: &[usize], to_domain: &[usize], read: TableRead)
     };
     let mut turns = u64::MAX;
     while turns > 0 {
-        left = step(text, to_path, to_domain, read, &mut input, left, &mut out);
+        left = step(
+            streams, text, to_path, to_domain, read, &mut input, left, &mut out,
+        );
         if left.ended {
             return;
         }
@@ -198,15 +220,20 @@ fn run(text: &[u8], to_path: &[usize], to_domain: &[usize], read: TableRead)
 }
 
 // Loads a table text, once, and answers standard input under it.
-fn answer_under(text: &[u8]) {
+fn answer_under(streams: Streams, text: &[u8]) {
     let mut to_path = [0usize; ROWS_SIZE];
     let mut to_domain = [0usize; ROWS_SIZE];
     let read = open(text, &mut to_path, &mut to_domain);
-    run(text, &to_path, &to_domain, read);
+    run(streams, text, &to_path, &to_domain, read);
 }
 
-fn main() {
+fn main(rt: HostRuntime) {
     let mut table = [0u8; TABLE_ROOM];
-    let n = read_table(&mut table);
-    answer_under(&table[..n]);
+    let n = read_table(&rt, &mut table);
+    let streams = Streams {
+        input: rt.stdin(),
+        output: rt.stdout(),
+        error: rt.stderr(),
+    };
+    answer_under(streams, &table[..n]);
 }

@@ -11,7 +11,7 @@ use chars::write::put;
 
 // Where the pieces of a name stand in its text: the given name in front, its length 0 where there is none; the initials,
 // each with a dot, from `from` on; and the surname to the end.
-#[derive(Drop)]
+#[derive(Clone, Copy)]
 pub struct NamePlaces {
     pub given: usize,
     pub from: usize,
@@ -19,7 +19,7 @@ pub struct NamePlaces {
     pub surname: usize,
 }
 
-#[derive(Drop)]
+#[derive(Clone, Copy)]
 pub enum NameRead {
     Name(NamePlaces),
     NoName,

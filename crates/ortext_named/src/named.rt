@@ -8,7 +8,7 @@ use ortext_segments::keys::{DD_KEY, OU_KEY, PN_KEY, UNKNOWN};
 use ortext_segments::scan::{Found, NO_SPAN, Span};
 
 // The places of a DD's type and value.
-#[derive(Drop)]
+#[derive(Clone, Copy)]
 pub struct DdPlaces {
     pub kind: Span,
     pub value: Span,
@@ -17,7 +17,7 @@ pub struct DdPlaces {
 // The places of what is named: under the keys that stand once, by their numbers (those of OU and DD stay empty); and the
 // units and the DDs in the order of the text. `again`: a settled level is named. `bad`: a key is unknown or repeated, a value
 // is empty, or a fifth unit or DD is named.
-#[derive(Drop)]
+#[derive(Clone, Copy)]
 pub struct Named {
     pub once: [Span; UNKNOWN],
     pub units: [Span; MOST],

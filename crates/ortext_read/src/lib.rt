@@ -1,2 +1,4 @@
 // Record text and names read into a record (document 01, "Address to record" steps 2 to 4).
+#![tactic(auto)]
+
 pub mod read;

@@ -18,7 +18,7 @@ use ortext_segments::scan::{SegmentRead, read_segment};
 
 // What reading came to: a record; or that the text does not read, names what no record may have, or names a settled level again, which are
 // all document 01's number 4.
-#[derive(Drop)]
+#[derive(Clone, Copy)]
 pub enum Answer {
     Done,
     Unread,
@@ -27,7 +27,7 @@ pub enum Answer {
 }
 
 // The answer, and on Done the record; else an empty one.
-#[derive(Drop)]
+#[derive(Clone, Copy)]
 pub struct Reading {
     pub answer: Answer,
     pub record: Record,

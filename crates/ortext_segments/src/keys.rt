@@ -5,7 +5,7 @@ ghost use Rattle.ortext_segments.specs.Keys.{Spells, key_count, key_number, keys
 use chars::case::{fold_case, same_text};
 
 // A key as it is written.
-#[derive(Drop)]
+#[derive(Clone, Copy)]
 pub struct KeyName {
     pub len: usize,
     pub bytes: [u8; 7],

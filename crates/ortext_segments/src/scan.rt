@@ -9,7 +9,7 @@ use chars::class::{is_label_char, is_printable};
 use chars::parts::byte_at;
 
 // A place in a text: where it starts, and how long it is. One that starts at 0 stands for nothing.
-#[derive(Drop)]
+#[derive(Clone, Copy)]
 pub struct Span {
     pub start: usize,
     pub len: usize,
@@ -19,7 +19,7 @@ pub const NO_SPAN: Span = Span { start: 0, len: 0 };
 
 // A segment: its key's number, where a DD's type and the value stand, and where what follows the slash behind it starts. The
 // type of a short key has no place: what the key spells is the type.
-#[derive(Drop)]
+#[derive(Clone, Copy)]
 pub struct Found {
     pub key: usize,
     pub kind: Span,
@@ -27,13 +27,13 @@ pub struct Found {
     pub next: usize,
 }
 
-#[derive(Drop)]
+#[derive(Clone, Copy)]
 pub enum SegmentRead {
     Segment(Found),
     Bad,
 }
 
-#[derive(Drop)]
+#[derive(Clone, Copy)]
 pub enum TextEnd {
     At(usize),
     Nowhere,

@@ -4,7 +4,7 @@ ghost use Rattle.chars.specs.Lists.{all, non_empty};
 ghost use Rattle.chars.specs.Write.{Wrote};
 ghost use Rattle.oraddr.specs.View.{dd_view, dds_view, unit_view, units_view, value_view, view};
 ghost use Rattle.oraddr.specs.Bounds.{own_levels, single_count};
-ghost use Rattle.ortext_segments.specs.Keys.{OU-KEY, PN-KEY, key_count, keys};
+ghost use Rattle.ortext_segments.specs.Keys.{ou_key, pn_key, key_count, keys};
 ghost use Rattle.ortext_name.specs.Name.{is_short, name_text};
 ghost use Rattle.ortext_write.specs.Write.{dd_segment, has_short, joined, key_value, long_dd, order, plain_segment, quoted, segment_text, segments_at, segments_in};
 ghost use Rattle.ortext_write.specs.Write.{local_text, only_name, record_text, remaining, writes_short};
@@ -121,7 +121,7 @@ fn put_long_dd(dst: &mut [u8], at: usize, kind: &[u8], value: &[u8]) -> usize
 // Writes the segment of a DD.
 fn put_dd(dst: &mut [u8], at: usize, kind: &[u8], value: &[u8]) -> usize
     requires { at + length (segment_text keys (dd_segment (record { kind = kind.now; value = value.now }))) ≤ length dst.old }
-    ensures { Wrote dst.old at (segment_text keys (dd_segment (record { kind = kind.entry.now; value = value.now }))) result dst.new }
+    ensures { Wrote dst.old at (segment_text keys (dd_segment (record { kind = kind.now; value = value.now }))) result dst.new }
 {
     if is_short_kind(kind) {
         return put_segment(dst, at, SHORT_KEYS, value);
@@ -160,8 +160,8 @@ fn put_dds(dst: &mut [u8], at: usize, dds: Dds) -> usize
 
 // Writes a unit of a record.
 fn put_unit(dst: &mut [u8], at: usize, unit: OrgUnit) -> usize
-    requires { at + length (segment_text keys (plain_segment OU-KEY (unit_view unit))) ≤ length dst.old }
-    ensures { Wrote dst.old at (segment_text keys (plain_segment OU-KEY (unit_view unit))) result dst.new }
+    requires { at + length (segment_text keys (plain_segment ou_key (unit_view unit))) ≤ length dst.old }
+    ensures { Wrote dst.old at (segment_text keys (plain_segment ou_key (unit_view unit))) result dst.new }
 {
     let n = unit.size();
     let bytes = unit.bytes;
@@ -170,8 +170,8 @@ fn put_unit(dst: &mut [u8], at: usize, unit: OrgUnit) -> usize
 
 // Writes the units from number `from` on, the least significant first.
 fn put_units(dst: &mut [u8], at: usize, units: Units, from: usize) -> usize
-    requires { at + length (joined keys (map (plain_segment OU-KEY) (reverse (drop from (units_view units))))) ≤ length dst.old }
-    ensures { Wrote dst.old at (joined keys (map (plain_segment OU-KEY) (reverse (drop from (units_view units))))) result dst.new }
+    requires { at + length (joined keys (map (plain_segment ou_key) (reverse (drop from (units_view units))))) ≤ length dst.old }
+    ensures { Wrote dst.old at (joined keys (map (plain_segment ou_key) (reverse (drop from (units_view units))))) result dst.new }
 {
     let mut next = at;
     let mut i = units.size();
@@ -219,7 +219,7 @@ fn is_out(k: usize, n: usize) -> bool
 
 // Writes what the record has for one key, its first `from` levels left out.
 fn put_key(dst: &mut [u8], at: usize, rec: Record, from: usize, k: usize) -> usize
-    requires k_bound { k < PN-KEY }
+    requires k_bound { k < pn_key }
     requires k_in_bounds { at + length (joined keys (segments_at (remaining from (view rec)) k)) ≤ length dst.old }
     ensures { Wrote dst.old at (joined keys (segments_at (remaining from (view rec)) k)) result dst.new }
 {

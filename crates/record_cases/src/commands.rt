@@ -1,7 +1,7 @@
 // The commands that change the record: additions, and lengths and counts set to anything.
 use crate::print::print_record;
 use cases::parts::{front, rest};
-use cases::print::say_number;
+use cases::print::{Output, say_number};
 use cases::read::{LARGEST, number};
 use chars::parts::byte_at;
 use oraddr::add::{Added, Addition, Attribute};
@@ -24,11 +24,11 @@ fn attribute(tag: u8) -> Attribute {
 }
 
 // Prints the number of an addition's answer.
-fn told(a: Addition) -> Record {
+fn told(to: &mut Output, a: Addition) -> Record {
     let answer = a.answer;
     match answer {
-        Added::Done => say_number(0),
-        Added::Refused => say_number(4),
+        Added::Done => say_number(to, 0),
+        Added::Refused => say_number(to, 4),
     }
     a.record
 }
@@ -108,35 +108,35 @@ fn disturb(rec: Record, tag: u8, place: usize, n: usize) -> Record {
 }
 
 // The record after a command.
-fn change(rec: Record, s: &[u8]) -> Record {
+fn change(to: &mut Output, rec: Record, s: &[u8]) -> Record {
     let tag = byte_at(s, 0);
     let n = number(rest(s, 1));
     let text = rest(s, 5);
     match tag {
         b'L' | b'M' | b'T' => disturb(rec, tag, byte_at(text, 0) as usize, size(n)),
-        b'd' => told(rec.with_dd(front(text, n), rest(text, n))),
-        b'u' => told(rec.with_unit(text)),
-        _ => told(rec.with(attribute(tag), text)),
+        b'd' => told(to, rec.with_dd(front(text, n), rest(text, n))),
+        b'u' => told(to, rec.with_unit(text)),
+        _ => told(to, rec.with(attribute(tag), text)),
     }
 }
 
 // The record that commands make, in front of each its length in four digits.
-fn made(s: &[u8]) -> Record {
+fn made(to: &mut Output, s: &[u8]) -> Record {
     let mut rec = Record::empty();
     let mut at = 0;
     while at < s.len() {
         let n = number(rest(s, at));
-        rec = change(rec, front(rest(s, at + 4), n));
+        rec = change(to, rec, front(rest(s, at + 4), n));
         at += 4 + n;
     }
     rec
 }
 
 // A record and the one before it, whose commands are as many bytes as four digits say.
-pub(crate) fn run_record(s: &[u8]) {
+pub(crate) fn run_record(to: &mut Output, s: &[u8]) {
     let text = rest(s, 4);
     let n = number(s);
-    let other = made(front(text, n));
-    let rec = made(rest(text, n));
-    print_record(rec, other);
+    let other = made(to, front(text, n));
+    let rec = made(to, rest(text, n));
+    print_record(to, rec, other);
 }

@@ -13,16 +13,22 @@
 //   M                    the same of unit k, and where k is 4 of the count of units
 //   T                    the same of DD type k, from 4 on of the DD values, and where k is 8 of the count of DDs
 // The number 9999 stands for the largest length or count there is.
+#![tactic(auto)]
+
 mod commands;
 mod print;
 mod rules;
 
+use cases::files::read_full;
 use cases::lines::{line, next_line};
 use cases::parts::rest;
+use cases::print::Output;
 use cases::read::unhex;
 use commands::run_record;
 use oraddr::value::held;
 use rules::{print_byte, print_text};
+use std::io;
+use std::io::{Stdin, Stdout};
 
 // Standard input, at most.
 const ROOM: usize = 524288;
@@ -30,38 +36,41 @@ const ROOM: usize = 524288;
 // The bytes of a line, at most.
 const TEXT: usize = 512;
 
-fn run_case(tag: u8, text: &[u8]) {
+fn run_case(to: &mut Output, tag: u8, text: &[u8]) {
     match tag {
-        b'b' => print_byte(text),
-        b'w' => print_text(text),
-        _ => run_record(text),
+        b'b' => print_byte(to, text),
+        b'w' => print_text(to, text),
+        _ => run_record(to, text),
     }
 }
 
-fn run_line(line: &[u8]) {
+fn run_line(to: &mut Output, line: &[u8]) {
     if line.len() == 0 {
         return;
     }
     let mut space = [0u8; TEXT];
     let n = unhex(&mut space, rest(line, 1));
-    run_case(line[0], held(&space, n));
+    run_case(to, line[0], held(&space, n));
 }
 
-fn run(s: &[u8]) {
+fn run(to: &mut Output, s: &[u8]) {
     let mut from = 0;
     while from < s.len() {
-        run_line(line(s, from));
+        run_line(to, line(s, from));
         from = next_line(s, from);
     }
 }
 
 // Reads standard input, and runs it.
-fn read_and_run(space: &mut [u8]) {
-    let n = io::read_full(libc::STDIN_FILENO, space);
-    run(&space[..n]);
+fn read_and_run(from: Stdin, to: Stdout, space: &mut [u8]) -> io::Result<()> {
+    let mut from = from;
+    let n = read_full(&mut from, space)?;
+    let mut to = Output::new(to);
+    run(&mut to, &space[..n]);
+    to.written()
 }
 
-fn main() {
+fn main(rt: HostRuntime) -> io::Result<()> {
     let mut space = [0u8; ROOM];
-    read_and_run(&mut space);
+    read_and_run(rt.stdin(), rt.stdout(), &mut space)
 }

@@ -39,7 +39,7 @@ pub(crate) fn is_plain(b: u8) -> bool
 }
 
 // How a character is coded: by a single byte, itself or the `_` of a space; by a letter between two `#`; or by its number.
-#[derive(Drop)]
+#[derive(Clone, Copy)]
 enum Coding {
     Single(u8),
     Short(u8),

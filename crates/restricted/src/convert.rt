@@ -11,7 +11,7 @@ use crate::parse::{Parsed, measure_parsed, put_parsed};
 use chars::write::put;
 
 // Request 9's answers: 0, 1 and 6.
-#[derive(Drop)]
+#[derive(Clone, Copy)]
 pub enum RestrictedAnswer {
     Done,
     ByteOver127,
@@ -19,7 +19,7 @@ pub enum RestrictedAnswer {
 }
 
 // The answer, and on Done the length of the text; else 0.
-#[derive(Drop)]
+#[derive(Clone, Copy)]
 pub struct RestrictedWritten {
     pub answer: RestrictedAnswer,
     pub size: usize,

@@ -41,7 +41,7 @@ fn short_at(s: &[u8], at: usize) -> u8
 }
 
 // A character, and how many bytes it is coded by; 0 of them where what stands there does not parse.
-#[derive(Drop)]
+#[derive(Clone, Copy)]
 struct Group {
     char: u8,
     len: usize,
@@ -89,7 +89,7 @@ fn group_at(s: &[u8], at: usize) -> Group
 
 // What a text comes to: how many characters it stands for; that it does not parse, and is taken as it stands; or that it has a byte over
 // 127.
-#[derive(Drop)]
+#[derive(Clone, Copy)]
 pub(crate) enum Parsed {
     Length(usize),
     AsItStands,

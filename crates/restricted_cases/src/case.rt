@@ -1,7 +1,7 @@
 // One case: a text coded, or read back, in a buffer of a length.
 ghost use Rattle.std.specs.Prelude.{◌≤◌};
 
-use cases::print::{FILLED, say, say_written};
+use cases::print::{FILLED, Output, say, say_written};
 use cases::read::{LARGEST, number, unhex};
 use restricted::convert::{RestrictedWritten, restrict, restricted_number, unrestrict};
 
@@ -16,31 +16,31 @@ fn convert(tag: u8, text: &[u8], out: &mut [u8]) -> RestrictedWritten {
     unrestrict(text, out)
 }
 
-fn run_into(tag: u8, text: &[u8], out: &mut [u8]) {
+fn run_into(to: &mut Output, tag: u8, text: &[u8], out: &mut [u8]) {
     let done = convert(tag, text, out);
     let answer = done.answer;
-    say_written(restricted_number(answer), done.size, out);
-    say(b"\n");
+    say_written(to, restricted_number(answer), done.size, out);
+    say(to, b"\n");
 }
 
 // A case in a buffer of n bytes.
-fn run_case(tag: u8, text: &[u8], n: usize)
+fn run_case(to: &mut Output, tag: u8, text: &[u8], n: usize)
     requires { n ≤ 9999 }
 {
     let mut out = [FILLED; LARGEST];
-    run_into(tag, text, &mut out[..n]);
+    run_into(to, tag, text, &mut out[..n]);
 }
 
 // A line's letter, the digits behind it, and the text in hexadecimal.
-fn run_spelt(tag: u8, digits: &[u8], spelt: &[u8]) {
+fn run_spelt(to: &mut Output, tag: u8, digits: &[u8], spelt: &[u8]) {
     let mut text = [0u8; TEXT];
     let n = unhex(&mut text, spelt);
-    run_case(tag, &text[..n], number(digits));
+    run_case(to, tag, &text[..n], number(digits));
 }
 
-pub(crate) fn run_line(line: &[u8]) {
+pub(crate) fn run_line(to: &mut Output, line: &[u8]) {
     if line.len() < 7 {
         return;
     }
-    run_spelt(line[0], &line[2..6], &line[7..]);
+    run_spelt(to, line[0], &line[2..6], &line[7..]);
 }

@@ -4,8 +4,8 @@ ghost use Rattle.std.specs.Prelude.{◌<◌, ◌≤◌, length};
 ghost use Rattle.router_line.specs.Line.{answer_room};
 ghost use Rattle.route_cases.specs.Feed.{Came};
 
+use cases::print::{Output, say};
 use gateway::entry::route;
-use libc::STDOUT_FILENO;
 use router_line::line::ANSWER_ROOM;
 
 // How many bytes arrive at each turn, over and over: some are less than a line, and some are several; the greatest is below the limit of a
@@ -13,7 +13,7 @@ use router_line::line::ANSWER_ROOM;
 const STEPS: [usize; 8] = [1, 7, 64, 2, 4095, 13, 3, 512];
 
 // How far the answers have come, and whether the input goes on within a line that is over the limit.
-#[derive(Drop)]
+#[derive(Clone, Copy)]
 struct Place {
     over: bool,
     at: usize,
@@ -40,7 +40,15 @@ fn arrived(input: &[u8], end: usize, turn: usize) -> usize
 
 // Answers all lines up to `end` that can be answered. What a call wrote is written out before it is seen whether the call took anything, so
 // that answers to nothing would show.
-fn answer(table: &[u8], input: &[u8], over: bool, at: usize, end: usize, out: &mut [u8]) -> Place
+fn answer(
+    to: &mut Output,
+    table: &[u8],
+    input: &[u8],
+    over: bool,
+    at: usize,
+    end: usize,
+    out: &mut [u8],
+) -> Place
     requires at_le_end { at ≤ end }
     requires end_in_bounds { end ≤ length input.now }
     requires answer_room_in_bounds { answer_room ≤ length out.old }
@@ -53,7 +61,7 @@ fn answer(table: &[u8], input: &[u8], over: bool, at: usize, end: usize, out: &m
         let done = route(table, over, &input[at..end], last, out);
         over = done.over;
         let n = done.written;
-        io::write_all(STDOUT_FILENO, &out[..n]);
+        say(to, &out[..n]);
         let taken = done.taken;
         if taken == 0 {
             return Place { over, at };
@@ -64,7 +72,7 @@ fn answer(table: &[u8], input: &[u8], over: bool, at: usize, end: usize, out: &m
 }
 
 // Runs an input under a table text.
-pub(crate) fn feed(table: &[u8], input: &[u8]) {
+pub(crate) fn feed(to: &mut Output, table: &[u8], input: &[u8]) {
     let mut out = [0u8; ANSWER_ROOM];
     let mut over = false;
     let mut at = 0;
@@ -72,7 +80,7 @@ pub(crate) fn feed(table: &[u8], input: &[u8]) {
     let mut turn = 0;
     while end < input.len() {
         end = arrived(input, end, turn);
-        let place = answer(table, input, over, at, end, &mut out);
+        let place = answer(to, table, input, over, at, end, &mut out);
         over = place.over;
         at = place.at;
         turn += 1;

@@ -3,11 +3,17 @@
 // tests/vectors/ into this program's files.
 //
 // Standard input is lines, two for a run: the name of its table, and that of its input. Printed of each run: its answers.
+#![tactic(auto)]
+
 mod feed;
 
-use cases::files::read_file;
+use cases::files::{read_file, read_full};
 use cases::lines::{line, next_line};
+use cases::print::Output;
 use feed::feed;
+use std::io;
+use std::io::{Stdin, Stdout};
+use std::rt::Files;
 
 // Standard input, at most; an input, at most; a table with one byte too many.
 const ROOM: usize = 65536;
@@ -17,34 +23,37 @@ const INPUT_ROOM: usize = 131072;
 const TABLE_ROOM: usize = 65537;
 
 // Runs the input of a name under the table of a name.
-fn run_files(table: &[u8], input: &[u8]) {
+fn run_files(rt: &impl Files, to: &mut Output, table: &[u8], input: &[u8]) {
     let mut table_space = [0u8; TABLE_ROOM];
-    let t = read_file(table, &mut table_space);
+    let t = read_file(rt, table, &mut table_space);
     let mut input_space = [0u8; INPUT_ROOM];
-    let n = read_file(input, &mut input_space);
-    feed(&table_space[..t], &input_space[..n]);
+    let n = read_file(rt, input, &mut input_space);
+    feed(to, &table_space[..t], &input_space[..n]);
 }
 
 // Runs each pair of names. A table's name that ends the text has no input.
-fn run(s: &[u8]) {
+fn run(rt: &impl Files, to: &mut Output, s: &[u8]) {
     let mut from = 0;
     while from < s.len() {
         let middle = next_line(s, from);
         if s.len() < middle {
             return;
         }
-        run_files(line(s, from), line(s, middle));
+        run_files(rt, to, line(s, from), line(s, middle));
         from = next_line(s, middle);
     }
 }
 
 // Reads standard input, and runs it.
-fn read_and_run(space: &mut [u8]) {
-    let n = io::read_full(libc::STDIN_FILENO, space);
-    run(&space[..n]);
+fn read_and_run(rt: &impl Files, from: Stdin, to: Stdout, space: &mut [u8]) -> io::Result<()> {
+    let mut from = from;
+    let n = read_full(&mut from, space)?;
+    let mut to = Output::new(to);
+    run(rt, &mut to, &space[..n]);
+    to.written()
 }
 
-fn main() {
+fn main(rt: HostRuntime) -> io::Result<()> {
     let mut space = [0u8; ROOM];
-    read_and_run(&mut space);
+    read_and_run(&rt, rt.stdin(), rt.stdout(), &mut space)
 }

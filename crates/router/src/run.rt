@@ -13,7 +13,7 @@ use table_load::load::load;
 
 // How far a call came in its input, and how much it wrote. `over` says that the input goes on within a line that is over the limit and has
 // been answered.
-#[derive(Drop)]
+#[derive(Clone, Copy)]
 pub struct Routed {
     pub over: bool,
     pub taken: usize,

@@ -37,7 +37,7 @@ const TEXT_AT: usize = 2;
 pub const ANSWER_ROOM: usize = TEXT_AT + ADDRESS_ROOM + 1;
 
 // Where the next answer goes, or that this one does not fit.
-#[derive(Drop)]
+#[derive(Clone, Copy)]
 pub enum Placing {
     Next(usize),
     Full,

@@ -1,10 +1,12 @@
 // A lent list of row records, and its entries laid out as numbers, which the functions above read.
+#![tactic(auto)]
+
 ghost use Rattle.std.specs.Prelude.{◌≡◌, List, ◌<◌, ◌≤◌, ◌/◌, ◌*◌, ◌+◌, length, get_or, take};
 ghost use Rattle.rowlist.specs.Entries.{entries_of, entry_size, laid, lesser, no_entry};
 
 // An entry of a list of rows.
 #[repr(C)]
-#[derive(Drop)]
+#[derive(Clone, Copy)]
 pub struct RowEntry {
     pub kind: usize,
     pub domain: usize,

@@ -4,7 +4,7 @@ ghost use Rattle.soundness.specs.Sound.{Sound};
 use oraddr::record::Record;
 
 // Document 01's answers: 0, 8, and 7 with the number of the first bad line.
-#[derive(Drop)]
+#[derive(Clone, Copy)]
 pub enum CheckAnswer {
     Sound,
     Unsound,
@@ -12,7 +12,7 @@ pub enum CheckAnswer {
 }
 
 // The answer, and with Unsound a witness; else an empty record.
-#[derive(Drop)]
+#[derive(Clone, Copy)]
 pub struct Checked {
     pub answer: CheckAnswer,
     pub record: Record,

@@ -1,2 +1,4 @@
 // Labels that no row has, for the candidates of the table check.
+#![tactic(auto)]
+
 pub mod fresh;

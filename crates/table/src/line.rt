@@ -14,7 +14,7 @@ pub const LONGEST_GATEWAY_DOMAIN: usize = 253;
 pub const LONGEST_ROW_DOMAIN: usize = 40;
 
 // Where a row's domain and path stand in the table text.
-#[derive(Drop)]
+#[derive(Clone, Copy)]
 pub struct Row {
     pub domain: usize,
     pub domain_end: usize,
@@ -22,7 +22,7 @@ pub struct Row {
     pub path_end: usize,
 }
 
-#[derive(Drop)]
+#[derive(Clone, Copy)]
 pub enum RowRead {
     Row(Row),
     Bad,

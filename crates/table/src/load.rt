@@ -2,7 +2,7 @@
 use crate::line::Row;
 
 // A well-formed table: the gateway's row, and how many rows go each way.
-#[derive(Drop)]
+#[derive(Clone, Copy)]
 pub struct Loaded {
     pub gateway: Row,
     pub to_path: usize,
@@ -10,7 +10,7 @@ pub struct Loaded {
 }
 
 // A table, or the number of its first bad line, or of a list's first bad entry: document 01's number 7.
-#[derive(Drop)]
+#[derive(Clone, Copy)]
 pub enum TableRead {
     Table(Loaded),
     Malformed(usize),

@@ -17,14 +17,14 @@ pub const ORDER: usize = 2048;
 pub const ROWS_SIZE: usize = 2560;
 
 // What no two rows of a list have in common, and what they are ordered by: a domain leads to one path, a path to one domain.
-#[derive(Drop)]
+#[derive(Clone, Copy)]
 pub enum Key {
     Domain,
     Path,
 }
 
 // Where a key stands in the table text.
-#[derive(Drop)]
+#[derive(Clone, Copy)]
 pub struct KeyPlace {
     pub from: usize,
     pub end: usize,

@@ -6,16 +6,22 @@
 //   T NAME        load the table of that name: prints 7 and the first bad line, or 0 and how many rows go each way
 //   D DOMAIN      the number of the row with the longest domain that is a tail of it, or none
 //   R LEVELS      the number of the row with the longest path that begins these eight levels, or none
+#![tactic(auto)]
+
 mod lookups;
 mod print;
 
 ghost use Rattle.std.specs.Prelude.{◌<◌, ◌≤◌, length};
 
-use cases::files::read_file;
+use cases::files::{read_file, read_full};
 use cases::lines::{line, next_line};
 use cases::parts::{front, rest};
+use cases::print::Output;
 use lookups::run_queries;
 use print::{print_malformed, print_rows};
+use std::io;
+use std::io::{Stdin, Stdout};
+use std::rt::Files;
 use table::load::TableRead;
 use table::rows::ROWS_SIZE;
 use table_load::load::load;
@@ -26,18 +32,18 @@ const ROOM: usize = 524288;
 const TABLE_ROOM: usize = 65537;
 
 // Loads a table, runs the look-ups from `at` on, and returns where the next table's line starts.
-fn run_loaded(s: &[u8], at: usize, text: &[u8]) -> usize
+fn run_loaded(to: &mut Output, s: &[u8], at: usize, text: &[u8]) -> usize
     ensures { at ≤ result }
 {
     let mut to_path = [0usize; ROWS_SIZE];
     let mut to_domain = [0usize; ROWS_SIZE];
     match load(text, &mut to_path, &mut to_domain) {
         TableRead::Table(t) => {
-            print_rows(t.to_path, t.to_domain);
-            run_queries(s, at, text, &to_path, &to_domain, t)
+            print_rows(to, t.to_path, t.to_domain);
+            run_queries(to, s, at, text, &to_path, &to_domain, t)
         }
         TableRead::Malformed(line) => {
-            print_malformed(line);
+            print_malformed(to, line);
             at
         }
     }
@@ -45,37 +51,40 @@ fn run_loaded(s: &[u8], at: usize, text: &[u8]) -> usize
 
 // Reads the table that the line at `at` names into the room for it, runs the look-ups that follow it, and returns where the next table's line
 // starts.
-fn run_read(s: &[u8], at: usize, space: &mut [u8]) -> usize
+fn run_read(rt: &impl Files, to: &mut Output, s: &[u8], at: usize, space: &mut [u8]) -> usize
     requires { at < length s.now }
     ensures { at < result }
 {
-    let n = read_file(rest(line(s, at), 2), space);
-    run_loaded(s, next_line(s, at), front(space, n))
+    let n = read_file(rt, rest(line(s, at), 2), space);
+    run_loaded(to, s, next_line(s, at), front(space, n))
 }
 
 // Runs the table that the line at `at` names, and returns where the next table's line starts.
-fn run_table(s: &[u8], at: usize) -> usize
+fn run_table(rt: &impl Files, to: &mut Output, s: &[u8], at: usize) -> usize
     requires { at < length s.now }
     ensures { at < result }
 {
     let mut space = [0u8; TABLE_ROOM];
-    run_read(s, at, &mut space)
+    run_read(rt, to, s, at, &mut space)
 }
 
-fn run(s: &[u8]) {
+fn run(rt: &impl Files, to: &mut Output, s: &[u8]) {
     let mut at = 0;
     while at < s.len() {
-        at = run_table(s, at);
+        at = run_table(rt, to, s, at);
     }
 }
 
 // Reads standard input, and runs it.
-fn read_and_run(space: &mut [u8]) {
-    let n = io::read_full(libc::STDIN_FILENO, space);
-    run(&space[..n]);
+fn read_and_run(rt: &impl Files, from: Stdin, to: Stdout, space: &mut [u8]) -> io::Result<()> {
+    let mut from = from;
+    let n = read_full(&mut from, space)?;
+    let mut to = Output::new(to);
+    run(rt, &mut to, &space[..n]);
+    to.written()
 }
 
-fn main() {
+fn main(rt: HostRuntime) -> io::Result<()> {
     let mut space = [0u8; ROOM];
-    read_and_run(&mut space);
+    read_and_run(&rt, rt.stdin(), rt.stdout(), &mut space)
 }

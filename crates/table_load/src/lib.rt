@@ -1,2 +1,4 @@
 // Loading a table text: its rows in order, or its first bad line (document 01, "The table text").
+#![tactic(auto)]
+
 pub mod load;

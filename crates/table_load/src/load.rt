@@ -12,7 +12,7 @@ use table_order::insert::add_if_new;
 
 pub const LONGEST_TABLE: usize = 65536;
 
-#[derive(Drop)]
+#[derive(Clone, Copy)]
 pub enum RowAdded {
     Added(Loaded),
     Bad,

@@ -6,14 +6,14 @@ ghost use Rattle.table_lookup.specs.Levels.{Levelled};
 use chars::parts::part_end;
 
 // A place in the table text.
-#[derive(Drop)]
+#[derive(Clone, Copy)]
 pub struct Span {
     pub start: usize,
     pub len: usize,
 }
 
 // "Each level of a row is named, omitted or not reached."
-#[derive(Drop)]
+#[derive(Clone, Copy)]
 pub enum LevelKind {
     Named(Span),
     Omitted,
@@ -21,7 +21,7 @@ pub enum LevelKind {
 }
 
 // A level of a path, and where the next one starts.
-#[derive(Drop)]
+#[derive(Clone, Copy)]
 pub struct Level {
     pub kind: LevelKind,
     pub next: usize,

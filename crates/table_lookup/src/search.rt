@@ -12,7 +12,7 @@ use table_order::compare::{byte_by, separator_of};
 use table_order::insert::key_size;
 use table_order::place::place_key;
 
-#[derive(Drop)]
+#[derive(Clone, Copy)]
 pub enum Found {
     At(usize),
     Nowhere,

@@ -11,7 +11,7 @@ use table::rows::Key;
 const BLOCK_SIZE: usize = 16;
 
 // How two keys compare: how many ranks they share, and whether the first is not over the second.
-#[derive(Drop)]
+#[derive(Clone, Copy)]
 pub struct Compared {
     pub shared: usize,
     pub under: bool,
@@ -60,7 +60,7 @@ fn rank_of(sep: u8, b: u8) -> usize
 }
 
 // How two bytes compare by rank.
-#[derive(Drop)]
+#[derive(Clone, Copy)]
 pub enum ByRank {
     Same,
     Less,

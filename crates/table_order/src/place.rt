@@ -9,7 +9,7 @@ use table::line::Row;
 use table::rows::{Key, ORDER, key_of, row_at};
 
 // How far a search came: how many keys are not over the query, and how many ranks the last of them shares with it.
-#[derive(Drop)]
+#[derive(Clone, Copy)]
 pub struct Place {
     pub at: usize,
     pub shared: usize,
@@ -17,7 +17,7 @@ pub struct Place {
 
 // What is left of a search: the keys before `lo` are not over the query, those from `hi` on are; and how many ranks of the query the
 // keys beside the two have.
-#[derive(Drop)]
+#[derive(Clone, Copy)]
 pub struct Range {
     pub lo: usize,
     pub hi: usize,

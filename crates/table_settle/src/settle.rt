@@ -21,7 +21,7 @@ use table_lookup::lookup::{find_domain, is_reached};
 use table_lookup::search::Found;
 
 // What step 1 comes to. The number of settled levels counts omitted ones too.
-#[derive(Drop)]
+#[derive(Clone, Copy)]
 pub enum Settled {
     Levels(usize),
     NoRow,
@@ -30,7 +30,7 @@ pub enum Settled {
 }
 
 // The answer, and with Levels the record that has them. Of the record with any other nothing is promised.
-#[derive(Drop)]
+#[derive(Clone, Copy)]
 pub struct Settlement {
     pub answer: Settled,
     pub record: Record,

@@ -8,62 +8,76 @@
 // The digit says how many levels are settled first, of XY, P, TOW, brack, u1, u2, u3, u4; 9 settles XY, P and an omitted
 // PRMD. What is printed of a reading: unread, refused, again, or whether the record is canonical and, if it is, its record
 // text, and its local part with none to all eight of its levels left out.
+#![tactic(auto)]
+
 mod print;
 mod settled;
 
 ghost use Rattle.std.specs.Prelude.{◌≤◌, length};
 
+use cases::files::read_full;
 use cases::lines::{line, next_line};
-use cases::print::say;
+use cases::print::{Output, say};
 use print::{print_name, print_reading};
 use settled::{base, levels};
+use std::io;
+use std::io::{Stdin, Stdout};
 
 // Standard input, at most.
 const ROOM: usize = 262144;
 
-fn run_text(digit: u8, text: &[u8]) {
-    print_reading(ortext_read::read::read_text(base(digit), levels(digit), text));
+fn run_text(to: &mut Output, digit: u8, text: &[u8]) {
+    print_reading(
+        to,
+        ortext_read::read::read_text(base(digit), levels(digit), text),
+    );
 }
 
-fn run_local(digit: u8, text: &[u8]) {
-    print_reading(ortext_read::read::read_local(base(digit), levels(digit), text));
+fn run_local(to: &mut Output, digit: u8, text: &[u8]) {
+    print_reading(
+        to,
+        ortext_read::read::read_local(base(digit), levels(digit), text),
+    );
 }
 
-fn run_case(line: &[u8])
+fn run_case(to: &mut Output, line: &[u8])
     requires { 2 ≤ length line.now }
 {
     let text = &line[2..];
     match line[0] {
-        b'N' => print_name(text),
-        b'T' => run_text(line[1], text),
-        _ => run_local(line[1], text),
+        b'N' => print_name(to, text),
+        b'T' => run_text(to, line[1], text),
+        _ => run_local(to, line[1], text),
     }
 }
 
 // One line: a command, a digit and a text.
-fn run_line(line: &[u8]) {
+fn run_line(to: &mut Output, line: &[u8]) {
     if line.len() < 2 {
         return;
     }
-    run_case(line);
-    say(b"\n");
+    run_case(to, line);
+    say(to, b"\n");
 }
 
-fn run(s: &[u8]) {
+fn run(to: &mut Output, s: &[u8]) {
     let mut from = 0;
     while from < s.len() {
-        run_line(line(s, from));
+        run_line(to, line(s, from));
         from = next_line(s, from);
     }
 }
 
 // Reads standard input, and runs it.
-fn read_and_run(space: &mut [u8]) {
-    let n = io::read_full(libc::STDIN_FILENO, space);
-    run(&space[..n]);
+fn read_and_run(from: Stdin, to: Stdout, space: &mut [u8]) -> io::Result<()> {
+    let mut from = from;
+    let n = read_full(&mut from, space)?;
+    let mut to = Output::new(to);
+    run(&mut to, &space[..n]);
+    to.written()
 }
 
-fn main() {
+fn main(rt: HostRuntime) -> io::Result<()> {
     let mut space = [0u8; ROOM];
-    read_and_run(&mut space);
+    read_and_run(rt.stdin(), rt.stdout(), &mut space)
 }

@@ -3,7 +3,7 @@ ghost use Rattle.std.specs.Prelude.{◌≡◌, true, ◌+◌, ◌*◌, ◌≤◌
 ghost use Rattle.oraddr.specs.Canonical.{canonical_record};
 ghost use Rattle.ortext_name.specs.Places.{Placed};
 
-use cases::print::say;
+use cases::print::{Output, say};
 use oraddr::record::Record;
 use oraddr_canonical::canonical::is_canonical;
 use ortext_name::name::{NamePlaces, NameRead, put_initials, read_name};
@@ -11,57 +11,57 @@ use ortext_read::read::{Answer, Reading};
 use ortext_write::write::{LONGEST_TEXT, write_local, write_text};
 
 // The record text of a canonical record.
-fn print_text(rec: Record)
+fn print_text(to: &mut Output, rec: Record)
     requires { canonical_record rec ≡ true }
 {
     let mut out = [0u8; LONGEST_TEXT];
     let n = write_text(&mut out, 0, rec, 0);
-    say(&out[..n]);
+    say(to, &out[..n]);
 }
 
 // A tab, and the local part of a canonical record with its first `from` levels left out.
-fn print_local(rec: Record, from: usize)
+fn print_local(to: &mut Output, rec: Record, from: usize)
     requires { canonical_record rec ≡ true }
 {
-    say(b"\t");
+    say(to, b"\t");
     let mut out = [0u8; LONGEST_TEXT];
     let n = write_local(&mut out, rec, from);
-    say(&out[..n]);
+    say(to, &out[..n]);
 }
 
 // The local part of a canonical record with none to all eight levels left out.
-fn print_locals(rec: Record)
+fn print_locals(to: &mut Output, rec: Record)
     requires { canonical_record rec ≡ true }
 {
     let mut from = 0;
     while from < 9 {
-        print_local(rec, from);
+        print_local(to, rec, from);
         from += 1;
     }
 }
 
-fn print_record(rec: Record) {
+fn print_record(to: &mut Output, rec: Record) {
     if !is_canonical(rec) {
-        say(b"0");
+        say(to, b"0");
         return;
     }
-    say(b"1\t");
-    print_text(rec);
-    print_locals(rec);
+    say(to, b"1\t");
+    print_text(to, rec);
+    print_locals(to, rec);
 }
 
-pub(crate) fn print_reading(r: Reading) {
+pub(crate) fn print_reading(to: &mut Output, r: Reading) {
     let answer = r.answer;
     match answer {
-        Answer::Done => print_record(r.record),
-        Answer::Unread => say(b"unread"),
-        Answer::Refused => say(b"refused"),
-        Answer::Again => say(b"again"),
+        Answer::Done => print_record(to, r.record),
+        Answer::Unread => say(to, b"unread"),
+        Answer::Refused => say(to, b"refused"),
+        Answer::Again => say(to, b"again"),
     }
 }
 
 // The initials of a name, of which there are few.
-fn print_initials(s: &[u8], from: usize, n: usize)
+fn print_initials(to: &mut Output, s: &[u8], from: usize, n: usize)
     requires { from + 2 * n ≤ length s.now }
 {
     if LONGEST_TEXT < n {
@@ -69,25 +69,25 @@ fn print_initials(s: &[u8], from: usize, n: usize)
     }
     let mut letters = [0u8; LONGEST_TEXT];
     put_initials(&mut letters, s, from, n);
-    say(&letters[..n]);
+    say(to, &letters[..n]);
 }
 
 // The pieces of a name: given name, initials, surname.
-fn print_places(s: &[u8], p: NamePlaces)
+fn print_places(to: &mut Output, s: &[u8], p: NamePlaces)
     requires { Placed s.now p }
 {
     let given = p.given;
-    say(&s[..given]);
-    say(b"\t");
-    print_initials(s, p.from, p.initials);
-    say(b"\t");
+    say(to, &s[..given]);
+    say(to, b"\t");
+    print_initials(to, s, p.from, p.initials);
+    say(to, b"\t");
     let surname = p.surname;
-    say(&s[surname..]);
+    say(to, &s[surname..]);
 }
 
-pub(crate) fn print_name(s: &[u8]) {
+pub(crate) fn print_name(to: &mut Output, s: &[u8]) {
     match read_name(s) {
-        NameRead::Name(p) => print_places(s, p),
-        NameRead::NoName => say(b"no name"),
+        NameRead::Name(p) => print_places(to, s, p),
+        NameRead::NoName => say(to, b"no name"),
     }
 }
