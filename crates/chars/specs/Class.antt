@@ -86,7 +86,7 @@ unfoldable pub is_atom_char : ℕ → Bool
 unfolding bytes member between
 is_atom_char b = between 33 126 b && not (is_special b)
 
--- what a domain part is made of: "letters, digits and inner hyphens"; where a hyphen may stand is `isDomainPart`'s to say
+-- what a domain part is made of: "letters, digits and inner hyphens"; where a hyphen may stand is `is_domain_part`'s to say
 unfoldable pub is_label_char : ℕ → Bool
 unfolding is_letter is_digit
 is_label_char b = is_letter b || is_digit b || eqb b 45

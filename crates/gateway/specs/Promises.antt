@@ -1,7 +1,7 @@
 -- The page that a reader must believe: what Lesogrom promises, over the definitions that the contracts of `src/entry.rt` cite.
--- Each entry point's result is an equation to one of them (`addressToRecord`, `recordToAddress`, or for a list `toRecordBy`, `toAddressBy`; `addSingle`, `add_unit`, `addDd`, `recordOfText`,
--- `textOfRecord`, `utcToDate`, `dateToUtc`, `restrictText`, `unrestrictText`, `phrasePlace`), or says `Demand3`, `Routing`, `TailShown` (of `sharedTail`)
--- or `Shows` (of `readMailbox`) of it. `proofs/Promises.antt` proves every statement of this page.
+-- Each entry point's result is an equation to one of them (`address_to_record`, `record_to_address`, or for a list `to_record_by`, `to_address_by`; `add_single`, `add_unit`, `add_dd`, `record_of_text`,
+-- `text_of_record`, `utc_to_date`, `date_to_utc`, `restrict_text`, `unrestrict_text`, `phrase_place`), or says `Demand3`, `Routing`, `TailShown` (of `shared_tail`)
+-- or `Shows` (of `read_mailbox`) of it. `proofs/Promises.antt` proves every statement of this page.
 -- Assumes nothing.
 use Rattle.std.specs.Prelude.{◌≡◌, ◌⊎◌, Bool, true, false, cond, not, List, [], ◌∷◌, ◌++◌, map, ℕ, ◌+◌, ◌/◌, ◌%◌, ◌≤◌, ◌<◌, eqb, ltb, length, take, drop, replicate, set}
 use Rattle.std.proofs.Math.Option.{none, some}
@@ -179,7 +179,7 @@ pub record AddressRules (table : Source) (r : Record) (old : List ℕ) : Type 0 
   pub done : (t : Table) (s : List ℕ) → spelling table ≡ well_formed t → canonical_record r ≡ true → address_of t (view r) ≡ some s
       → length s ≤ length old → record_to table r old ≡ record { number = 0; line = 0; size = length s; buffer = front s old }
 
--- 7, "the table is malformed", with the "number of the first bad line"; it is well_formed_lem exactly when no line is bad
+-- 7, "the table is malformed", with the "number of the first bad line"; it is well-formed exactly when no line is bad
 pub record TableRules (table : List ℕ) : Type 0 where
   pub first-bad : (n : ℕ) → loaded_from table ≡ malformed n
       → ((longest_table < length table) × (n ≡ 0)) ⊎ ((length table ≤ longest_table) × FirstBad (table_lines table) n)
@@ -215,16 +215,16 @@ pub record Demand2 : Type 0 where
       → carried_whole t a ≡ true → (address_to table s).number ≡ 0 → length s ≤ length old
       → record_to table (address_to table s).record' old ≡ record { number = 0; line = 0; size = length s; buffer = front s old }
 
--- ---- demand 3: the check accepts a table exactly when it is well_formed_lem and every canonical record that is no carrier comes back under it; when it
--- refuses a well_formed_lem table it shows a record that does not.
+-- ---- demand 3: the check accepts a table exactly when it is well-formed and every canonical record that is no carrier comes back under it; when it
+-- refuses a well-formed table it shows a record that does not.
 
--- the table is well_formed_lem, and what was spelled is sound
+-- the table is well-formed, and what was spelled is sound
 pub record Accepted (table : Source) : Type 0 where
   pub spelled : Table
   pub formed : spelling table ≡ well_formed spelled
   pub sound : Sound spelled
 
--- it is well_formed_lem, and the record does not come back
+-- it is well-formed, and the record does not come back
 pub record Shown (table : Source) (r : Record) : Type 0 where
   pub spelled : Table
   pub formed : spelling table ≡ well_formed spelled
@@ -295,7 +295,7 @@ pub record Router : Type 0 where
 
 -- ---- a text in a lent buffer, of the requests that came after: it ends as in demand 1
 
--- the number and the length are read off the one value that the functions for C return; no buffer has so many bytes as `lengthLimit`
+-- the number and the length are read off the one value that the functions for C return; no buffer has so many bytes as `length_limit`
 pub record Packing : Type 0 where
   pub number : (o : TextResult) → o.number < number_limit → packed_text o % number_limit ≡ o.number
   pub size : (o : TextResult) → o.number < number_limit → o.size < length_limit → packed_text o / number_limit ≡ o.size
@@ -384,7 +384,7 @@ pub record Mailboxes : Type 0 where
   -- nesting is counted exactly
   pub nested : (n : ℕ) → nests_too_deep (replicate n 40 ++ (replicate n 41 ++ bytes "a@b")) ≡ ltb 8 n
 
--- ---- the limits, by number: a greater one where a promise asks for it (`answerRoom`, `lengthLimit`) would promise less
+-- ---- the limits, by number: a greater one where a promise asks for it (`answer_room`, `length_limit`) would promise less
 
 pub record Limits : Type 0 where
   pub address : longest_address ≡ 2304

@@ -1,11 +1,10 @@
 -- What the answers of the code that reads a whole mailbox stand for.
 -- Assumes nothing.
-use Rattle.std.specs.Prelude.{◌≡◌, ℕ, ◌-◌, ◌≤◌, true, false, not, cond, List, ltb, length, take, drop}
+use Rattle.std.specs.Prelude.{◌≡◌, ℕ, ◌-◌, ◌≤◌, true, false, cond, List, ltb, length, take, drop}
 use Rattle.std.proofs.Math.Option.{Option, none, some}
 use Rattle.chars.specs.Parts.{Place}
 use Rattle.chars.specs.Write.{front}
 use Rattle.lexical.specs.Answers.{Stands, tokens_of}
-use Rattle.lexical.specs.Quoted.{quoted}
 use Rattle.mailbox_address.specs.Grammar.{Mailbox, Phrase, route_addr, whole}
 use Rattle.mailbox.specs.Mailbox.{Bare, MailboxResult}
 use Rattle.mailbox.specs.declared.entry.MailboxAnswer.{MailboxAnswer}

@@ -6,7 +6,7 @@ use Rattle.chars.specs.Case.{equal_text}
 use Rattle.chars.specs.Lists.{all}
 use Rattle.chars.specs.Spaces.{is_text}
 
--- The entries of the table. The first `singleCount` are the attributes that a record has once, and their numbers in it.
+-- The entries of the table. The first `single_count` are the attributes that a record has once, and their numbers in it.
 abbrev pub C : ℕ
 C = 0
 
@@ -40,8 +40,8 @@ OU = 9
 abbrev pub dd_type : ℕ
 dd_type = 10
 
-abbrev pub dd-value : ℕ
-dd-value = 11
+abbrev pub dd_value : ℕ
+dd_value = 11
 
 abbrev pub c_letters : ℕ
 c_letters = 12

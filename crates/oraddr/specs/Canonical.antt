@@ -2,7 +2,7 @@
 -- Assumes nothing.
 use Rattle.std.specs.Prelude.{ℕ, suc, Bool, true, ◌&&◌, ◌||◌, not, List, [], ◌∷◌, leb, length}
 use Rattle.chars.specs.Lists.{all, non_empty}
-use Rattle.oraddr.specs.Bounds.{C, ADMD, S, G, I, GQ, CN, OU, dd_type, dd-value, most, is_value, rule}
+use Rattle.oraddr.specs.Bounds.{C, ADMD, S, G, I, GQ, CN, OU, dd_type, dd_value, most, is_value, rule}
 use Rattle.oraddr.specs.Attributes.{Attributes, Dd, single_of}
 use Rattle.oraddr.specs.View.{in_range, view, singles_in_range, singles_view, units_in_range, units_view, dds_in_range, dds_view}
 use Rattle.oraddr.specs.declared.record.Singles.{Singles}
@@ -28,7 +28,7 @@ is_unit s = is_value OU s
 
 unfoldable pub is_dd : Dd → Bool
 unfolding is_value
-is_dd d = is_value dd_type d.kind && is_value dd-value d.value
+is_dd d = is_value dd_type d.kind && is_value dd_value d.value
 
 -- what "canonical" asks of each part of a record struct, its lengths and counts included
 unfoldable pub canonical_singles : Singles → Bool

@@ -3,7 +3,7 @@
 use Rattle.std.specs.Prelude.{ℕ, Bool, ◌&&◌, List, [], map, leb, eqb, length, take, drop, replicate}
 use Rattle.chars.specs.Lists.{all}
 use Rattle.chars.specs.Write.{front}
-use Rattle.oraddr.specs.Bounds.{most, single_count, bound_of, O, OU, dd_type, dd-value}
+use Rattle.oraddr.specs.Bounds.{most, single_count, bound_of, O, OU, dd_type, dd_value}
 use Rattle.oraddr.specs.Attributes.{Attributes, Dd}
 use Rattle.oraddr.specs.declared.value.Value.{Value}
 use Rattle.oraddr.specs.declared.value.OrgUnit.{OrgUnit}
@@ -63,7 +63,7 @@ kind_of s = record { len = length s; bytes = front s (replicate (bound_of dd_typ
 
 unfoldable pub dd_value_of : List ℕ → DdValue
 unfolding front
-dd_value_of s = record { len = length s; bytes = front s (replicate (bound_of dd-value) 0) }
+dd_value_of s = record { len = length s; bytes = front s (replicate (bound_of dd_value) 0) }
 
 unfoldable pub domain_defined_of : List ℕ → List ℕ → DomainDefined
 unfolding kind_of dd_value_of
@@ -79,7 +79,7 @@ unfolding all
 units_in_range u = leb u.count most && all (λ v. leb v.len (bound_of OU)) (take u.count u.names)
 
 unfoldable pub dd_in_range : DomainDefined → Bool
-dd_in_range d = leb d.kind.len (bound_of dd_type) && leb d.value.len (bound_of dd-value)
+dd_in_range d = leb d.kind.len (bound_of dd_type) && leb d.value.len (bound_of dd_value)
 
 unfoldable pub dds_in_range : Dds → Bool
 unfolding all dd_in_range

@@ -14,7 +14,7 @@ use Rattle.chars.specs.Lists.{all, non_empty}
 use Rattle.chars.proofs.Laws.Lists.{all-and, all_end, all_map, all_step, and_swap}
 use Rattle.chars.proofs.Laws.Seq.{map-take}
 use Rattle.oraddr.specs.Attributes.{single_of}
-use Rattle.oraddr.specs.Bounds.{bound_of, is_value, most, ADMD, C, dd_type, dd-value, O}
+use Rattle.oraddr.specs.Bounds.{bound_of, is_value, most, ADMD, C, dd_type, dd_value, O}
 use Rattle.oraddr.specs.Canonical.{all_kept, canonical, canonical_dds, canonical_record, canonical_singles, canonical_units, identified, is_dd, is_unit, kept, names_with_surname}
 use Rattle.oraddr.specs.View.{dd_in_range, dd_value_view, dd_view, dds_in_range, in_range, kind_view, singles_in_range, units_in_range, value_view, view}
 use Rattle.oraddr.specs.declared.value.Value.{Value}
@@ -23,10 +23,10 @@ use Rattle.oraddr.specs.declared.record.Record.{Record}
 
 -- ---- a DD
 
-pub dd-parts : (d : DomainDefined) → (dd_in_range d && is_dd (dd_view d)) ≡ (leb d.kind.len (bound_of dd_type) && is_value dd_type (kind_view d.kind) && (leb d.value.len (bound_of dd-value) && is_value dd-value (dd_value_view d.value)))
+pub dd-parts : (d : DomainDefined) → (dd_in_range d && is_dd (dd_view d)) ≡ (leb d.kind.len (bound_of dd_type) && is_value dd_type (kind_view d.kind) && (leb d.value.len (bound_of dd_value) && is_value dd_value (dd_value_view d.value)))
 unfolding dd_in_range is_dd dd_view
 dd-parts d =
-    and_swap (leb d.kind.len (bound_of dd_type)) (leb d.value.len (bound_of dd-value)) (is_value dd_type (kind_view d.kind)) (is_value dd-value (dd_value_view d.value))
+    and_swap (leb d.kind.len (bound_of dd_type)) (leb d.value.len (bound_of dd_value)) (is_value dd_type (kind_view d.kind)) (is_value dd_value (dd_value_view d.value))
 
 -- ---- the attributes that a record has once: what a loop has left of them
 

@@ -7,4 +7,4 @@ use Rattle.orroute.specs.declared.files.Got.TheVariants.{Bytes, Failed}
 -- at most as many bytes as there was room for
 abbrev pub Within : ℕ → Got → Type 0
 Within room (Bytes n) = n ≤ room
-Within room Failed = Unit
+Within room (Failed e) = Unit

@@ -8,7 +8,7 @@ use Rattle.oraddr.specs.Bounds.{S, single_count}
 use Rattle.oraddr.specs.Add.{Outcome, add_single, add_unit, add_dd}
 use Rattle.oraddr.specs.declared.record.Record.{Record}
 use Rattle.ortext_name.specs.Name.{Name, read_name}
-use Rattle.ortext_segments.specs.Keys.{dd-key, pn_key}
+use Rattle.ortext_segments.specs.Keys.{dd_key, pn_key}
 use Rattle.ortext_segments.specs.Scan.{kind_text, span_text}
 use Rattle.ortext_segments.specs.declared.scan.Span.{Span}
 use Rattle.ortext_named.specs.Named.{is_absent, place_at}
@@ -39,7 +39,7 @@ add_dds (d ∷ ds) o = add_dds ds (and_then o (λ r. add_dd r d.kind d.value))
 -- ---- what a text names
 
 abbrev pub dd_at : List ℕ → DdPlaces → Dd
-dd_at s d = record { kind = kind_text s dd-key d.kind; value = span_text s d.value }
+dd_at s d = record { kind = kind_text s dd_key d.kind; value = span_text s d.value }
 
 abbrev pub start : Record → Outcome
 start r = record { number = 0; record' = r }

@@ -2,7 +2,7 @@
 -- Assumes nothing.
 use Rattle.std.specs.Prelude.{ℕ, ◌+◌, ◌*◌, ◌≤◌, min, ◌≡◌, Bool, true, false, ◌&&◌, ◌||◌, not, cond, List, leb, ltb, eqb, length, get_or, replicate, set}
 use Rattle.oraddr.specs.Bounds.{G, GQ, I, S, most, own_levels}
-use Rattle.ortext_segments.specs.Keys.{ou-key, dd-key, pn_key}
+use Rattle.ortext_segments.specs.Keys.{ou_key, dd_key, pn_key}
 use Rattle.ortext_segments.specs.Segments.{unknown}
 use Rattle.ortext_segments.specs.Scan.{span_text}
 use Rattle.ortext_segments.specs.declared.scan.Span.{Span}
@@ -62,8 +62,8 @@ with_dd m d =
 unfoldable pub with_found : Named → Found → Named
 unfolding with_once with_unit with_dd
 with_found m f =
-    cond (eqb f.key ou-key) (with_unit m f.value)
-    (cond (eqb f.key dd-key) (with_dd m (record { kind = f.kind; value = f.value }))
+    cond (eqb f.key ou_key) (with_unit m f.value)
+    (cond (eqb f.key dd_key) (with_dd m (record { kind = f.kind; value = f.value }))
     (cond (ltb f.key unknown) (with_once m f.key f.value) (spoiled m)))
 
 -- the first n levels being settled

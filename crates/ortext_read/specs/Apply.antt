@@ -9,7 +9,7 @@ use Rattle.oraddr.specs.Attributes.{Attributes, Dd, single_of}
 use Rattle.oraddr.specs.Add.{Outcome, add_single}
 use Rattle.oraddr.specs.View.{view}
 use Rattle.oraddr.specs.declared.record.Record.{Record}
-use Rattle.ortext_segments.specs.Keys.{Keys, ou-key, dd-key, pn_key}
+use Rattle.ortext_segments.specs.Keys.{Keys, ou_key, dd_key, pn_key}
 use Rattle.ortext_name.specs.Name.{Name, read_name}
 use Rattle.ortext_segments.specs.Segments.{Segment, unknown, read_segments}
 use Rattle.ortext_build.specs.Adding.{add_dds, add_singles, add_units}
@@ -27,7 +27,7 @@ value_at k gs = get_or (values_at k gs) 0 []
 -- the DDs, in order
 unfoldable pub dds_of : List Segment → List Dd
 dds_of [] = []
-dds_of (g ∷ gs) = cond (eqb g.key dd-key) (record { kind = g.kind; value = g.value } ∷ dds_of gs) (dds_of gs)
+dds_of (g ∷ gs) = cond (eqb g.key dd_key) (record { kind = g.kind; value = g.value } ∷ dds_of gs) (dds_of gs)
 
 -- "a key is unknown"
 unfoldable pub has_unknown : List Segment → Bool
@@ -72,7 +72,7 @@ with_name gs (some n) =
       single =
           value_at C gs ∷ value_at ADMD gs ∷ value_at PRMD gs ∷ value_at O gs ∷ value_at CN gs
           ∷ n.surname ∷ n.given ∷ n.initials ∷ value_at GQ gs ∷ [];
-      units = reverse (values_at ou-key gs);
+      units = reverse (values_at ou_key gs);
       dds = dds_of gs;
     })
 

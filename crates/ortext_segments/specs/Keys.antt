@@ -8,19 +8,19 @@ use Rattle.chars.specs.Case.{same_text}
 use Rattle.chars.specs.Parts.{is_part}
 use Rattle.ortext_segments.specs.declared.keys.KeyName.{KeyName}
 
--- The numbers of keys: first the attributes that a record has once (`singleCount`), by their numbers in the table of bounds; then these.
-abbrev pub ou-key : ℕ
-ou-key = 9
+-- The numbers of keys: first the attributes that a record has once (`single_count`), by their numbers in the table of bounds; then these.
+abbrev pub ou_key : ℕ
+ou_key = 9
 
-abbrev pub dd-key : ℕ
-dd-key = 10
+abbrev pub dd_key : ℕ
+dd_key = 10
 
 abbrev pub pn_key : ℕ
 pn_key = 11
 
 -- from this number on, a table's entries are short keys, each for the DD type that it spells
-abbrev pub short-keys : ℕ
-short-keys = 12
+abbrev pub short_keys : ℕ
+short_keys = 12
 
 -- a table of keys: their spellings, in the order of the numbers above
 abbrev pub Keys : Type 0

@@ -3,7 +3,7 @@
 use Rattle.std.specs.Prelude.{◌≡◌, ◌||◌, cond, List, [], ◌∷◌, ℕ, ◌+◌, ◌*◌, ◌≤◌, ◌<◌, eqb, length, get_or, take, drop}
 use Rattle.std.proofs.Math.Option.{Option, none, some}
 use Rattle.chars.specs.Class.{is_printable}
-use Rattle.ortext_segments.specs.Keys.{keys, dd-key, short-keys}
+use Rattle.ortext_segments.specs.Keys.{keys, dd_key, short_keys}
 use Rattle.ortext_segments.specs.Segments.{Segment, ahead, read_rest, unknown, unquoted}
 use Rattle.ortext_segments.specs.declared.scan.Span.{Span}
 use Rattle.ortext_segments.specs.declared.scan.Found.{Found}
@@ -40,7 +40,7 @@ span_text s p = unquoted (take p.len (drop p.start s))
 -- the type of a DD: at its span, or, for a short key, whose span starts at 0, what the key spells; no other key has a type
 unfoldable pub kind_text : List ℕ → ℕ → Span → List ℕ
 unfolding span_text keys
-kind_text s key p = cond (eqb key dd-key) (cond (eqb p.start 0) (get_or keys short-keys []) (span_text s p)) []
+kind_text s key p = cond (eqb key dd_key) (cond (eqb p.start 0) (get_or keys short_keys []) (span_text s p)) []
 
 unfoldable pub found_segment : List ℕ → Found → Segment
 unfolding kind_text span_text
@@ -64,7 +64,7 @@ unfolding value_from
 kind_up_to s k none = Bad
 kind_up_to s k (some n) =
     cond (eqb (get_or s (k + n) 0) 61)
-    (value_from s dd-key (record { start = k; len = n }) (k + n + 1))
+    (value_from s dd_key (record { start = k; len = n }) (k + n + 1))
     Bad
 
 unfoldable pub kind_from : List ℕ → ℕ → SegmentRead

@@ -5,7 +5,7 @@ use Rattle.std.proofs.Math.Option.{Option, none, some}
 use Rattle.chars.specs.Lists.{non_empty}
 use Rattle.chars.specs.Class.{is_printable, is_label_char}
 use Rattle.chars.specs.Parts.{split}
-use Rattle.ortext_segments.specs.Keys.{Keys, dd-key, short-keys, key_number}
+use Rattle.ortext_segments.specs.Keys.{Keys, dd_key, short_keys, key_number}
 
 -- A segment of record text: which key it has, for a DD the type, and the value. An unknown key has the number `unknown`.
 pub record Segment : Type 0 where
@@ -55,12 +55,12 @@ key_run (x ∷ s) = cond (is_label_char x) (key_run s + 1) 0
 -- a key with no dot: "an unknown key, or `DD` with no dot, ... counts as unknown"; a short key is its DD type
 unfoldable pub plain_key : Keys → ℕ → List ℕ → Segment
 plain_key ks n v =
-    cond (eqb n dd-key)
+    cond (eqb n dd_key)
     (record { key = unknown; kind = []; value = v })
-    (cond (ltb n short-keys)
+    (cond (ltb n short_keys)
     (record { key = n; kind = []; value = v })
     (cond (ltb n (length ks))
-    (record { key = dd-key; kind = get_or ks n []; value = v })
+    (record { key = dd_key; kind = get_or ks n []; value = v })
     (record { key = unknown; kind = []; value = v })))
 
 -- "A key is one or more letters, digits or hyphens, `DD` alone taking a dot and a type": what stands before the `=`
@@ -71,8 +71,8 @@ segment_of ks left v =
     let rest : List ℕ = drop (key_run left) left in
     cond (non_empty key)
     (cond (non_empty rest)
-    (cond (eqb (get_or rest 0 0) 46 && eqb (key_number ks key) dd-key)
-    (some (record { key = dd-key; kind = plain_text (drop 1 rest); value = plain_text v }))
+    (cond (eqb (get_or rest 0 0) 46 && eqb (key_number ks key) dd_key)
+    (some (record { key = dd_key; kind = plain_text (drop 1 rest); value = plain_text v }))
     none)
     (some (plain_key ks (key_number ks key) (plain_text v))))
     none

@@ -2,9 +2,9 @@
 -- Assumes nothing.
 use Rattle.std.specs.Prelude.{ℕ, ◌+◌, ◌*◌, ◌-◌, min, Bool, ◌&&◌, ◌||◌, not, cond, List, [], ◌∷◌, ◌++◌, map, reverse, ltb, eqb, length, get_or, take, drop, replicate}
 use Rattle.chars.specs.Lists.{all, non_empty}
-use Rattle.oraddr.specs.Bounds.{ADMD, C, CN, dd_type, dd-value, G, GQ, I, O, OU, PRMD, S, bound_of, most, own_levels}
+use Rattle.oraddr.specs.Bounds.{ADMD, C, CN, dd_type, dd_value, G, GQ, I, O, OU, PRMD, S, bound_of, most, own_levels}
 use Rattle.oraddr.specs.Attributes.{Attributes, Dd, single_of}
-use Rattle.ortext_segments.specs.Keys.{Keys, ou-key, dd-key, short-keys, key_number}
+use Rattle.ortext_segments.specs.Keys.{Keys, ou_key, dd_key, short_keys, key_number}
 use Rattle.ortext_name.specs.Name.{Name, is_short, name_text}
 use Rattle.ortext_segments.specs.Segments.{Segment}
 
@@ -21,22 +21,22 @@ key_value key v = 47 ∷ key ++ 61 ∷ quoted v
 -- the short keys of a table, and whether one of them spells a type, case aside
 unfoldable pub has_short : Keys → List ℕ → Bool
 unfolding key_number
-has_short ks t = ltb (key_number (drop short-keys ks) t) (length (drop short-keys ks))
+has_short ks t = ltb (key_number (drop short_keys ks) t) (length (drop short_keys ks))
 
 unfoldable pub short_key : Keys → List ℕ → List ℕ
 unfolding key_number
-short_key ks t = get_or (drop short-keys ks) (key_number (drop short-keys ks) t) []
+short_key ks t = get_or (drop short_keys ks) (key_number (drop short_keys ks) t) []
 
 -- a DD by `DD.` and its type
 unfoldable pub long_dd : Keys → List ℕ → List ℕ → List ℕ
 unfolding key_value quoted
-long_dd ks t v = key_value (get_or ks dd-key [] ++ 46 ∷ quoted t) v
+long_dd ks t v = key_value (get_or ks dd_key [] ++ 46 ∷ quoted t) v
 
 -- a segment as it is written: "RFC-822 short", case aside
 unfoldable pub segment_text : Keys → Segment → List ℕ
 unfolding key_value has_short short_key long_dd
 segment_text ks g =
-    cond (eqb g.key dd-key)
+    cond (eqb g.key dd_key)
     (cond (has_short ks g.kind) (key_value (short_key ks g.kind) g.value) (long_dd ks g.kind g.value))
     (key_value (get_or ks g.key []) g.value)
 
@@ -54,10 +54,10 @@ segments_text ks gs = joined ks gs ++ (47 ∷ [])
 -- "order: DDs, G, I, S, GQ, OUs least significant first, O, PRMD, ADMD, C", by the numbers of their keys; request 12: CN is "written after the DDs and
 -- before G"
 abbrev pub order : List ℕ
-order = dd-key ∷ CN ∷ G ∷ I ∷ S ∷ GQ ∷ ou-key ∷ O ∷ PRMD ∷ ADMD ∷ C ∷ []
+order = dd_key ∷ CN ∷ G ∷ I ∷ S ∷ GQ ∷ ou_key ∷ O ∷ PRMD ∷ ADMD ∷ C ∷ []
 
 unfoldable pub dd_segment : Dd → Segment
-dd_segment d = record { key = dd-key; kind = d.kind; value = d.value }
+dd_segment d = record { key = dd_key; kind = d.kind; value = d.value }
 
 unfoldable pub plain_segment : ℕ → List ℕ → Segment
 plain_segment k v = record { key = k; kind = []; value = v }
@@ -66,8 +66,8 @@ plain_segment k v = record { key = k; kind = []; value = v }
 unfoldable pub segments_at : Attributes → ℕ → List Segment
 unfolding dd_segment plain_segment non_empty single_of
 segments_at a k =
-    cond (eqb k dd-key) (map dd_segment a.dds)
-    (cond (eqb k ou-key) (map (plain_segment ou-key) (reverse a.units))
+    cond (eqb k dd_key) (map dd_segment a.dds)
+    (cond (eqb k ou_key) (map (plain_segment ou_key) (reverse a.units))
     (cond (non_empty (single_of a k)) (plain_segment k (single_of a k) ∷ []) []))
 
 unfoldable pub segments_in : Attributes → List ℕ → List Segment
@@ -114,7 +114,7 @@ abbrev pub quoted_most : ℕ → ℕ
 quoted_most k = 2 * bound_of k
 
 abbrev pub dd_most : ℕ
-dd_most = 5 + quoted_most dd_type + quoted_most dd-value
+dd_most = 5 + quoted_most dd_type + quoted_most dd_value
 
 abbrev pub unit_most : ℕ
 unit_most = 4 + quoted_most OU

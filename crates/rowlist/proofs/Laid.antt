@@ -1,4 +1,4 @@
--- Entries that are laid out one after the other are read back: `entriesOf` of the numbers is the front of the list.
+-- Entries that are laid out one after the other are read back: `entries_of` of the numbers is the front of the list.
 -- Assumes nothing.
 use mathlib.Core.Path.{◌≡◌, refl, sym, ap, ◌∙◌}
 use Prim.Native.Nat.{ℕ, zero, suc, ◌<◌, ◌≤◌, ◌+◌, ◌*◌}
@@ -28,7 +28,9 @@ module _ (ns : List ℕ) (k : ℕ) (e : RowEntry) where
   s₄ = set s₃ (k + 3) e.path
 
   length-laid : length (laid ns k e) ≡ length ns
-  length-laid = length-set s₄ (k + 4) e.path_len ∙ length-set s₃ (k + 3) e.path ∙ length-set s₂ (k + 2) e.domain_len ∙ length-set s₁ (k + 1) e.domain ∙ length-set ns k e.kind
+  length-laid =
+      length-set s₄ (k + 4) e.path_len ∙ length-set s₃ (k + 3) e.path ∙ length-set s₂ (k + 2) e.domain_len ∙ length-set s₁ (k + 1) e.domain
+      ∙ length-set ns k e.kind
 
   -- a number before the place is as it was
   before : (j : ℕ) → j < k → get_or (laid ns k e) j 0 ≡ get_or ns j 0
@@ -44,11 +46,15 @@ module _ (ns : List ℕ) (k : ℕ) (e : RowEntry) where
   there l = λ i. record { kind = r₀ i; domain = r₁ i; domain_len = r₂ i; path = r₃ i; path_len = r₄ i }
     where
       r₄ : get_or (laid ns k e) (k + 4) 0 ≡ e.path_len
-      r₄ = get_or-set_same s₄ (k + 4) e.path_len 0 (lt-length-set s₃ (k + 3) e.path (lt-length-set s₂ (k + 2) e.domain_len (lt-length-set s₁ (k + 1) e.domain (lt-length-set ns k e.kind (omega (arith, l))))))
+      r₄ =
+          get_or-set_same s₄ (k + 4) e.path_len 0
+          (lt-length-set s₃ (k + 3) e.path (lt-length-set s₂ (k + 2) e.domain_len
+          (lt-length-set s₁ (k + 1) e.domain (lt-length-set ns k e.kind (omega (arith, l))))))
 
       r₃ : get_or (laid ns k e) (k + 3) 0 ≡ e.path
       r₃ = get_or-set_other s₄ (k + 4) (k + 3) e.path_len 0 (λ q. omega (arith, q, l))
-          ∙ get_or-set_same s₃ (k + 3) e.path 0 (lt-length-set s₂ (k + 2) e.domain_len (lt-length-set s₁ (k + 1) e.domain (lt-length-set ns k e.kind (omega (arith, l)))))
+          ∙ get_or-set_same s₃ (k + 3) e.path 0
+          (lt-length-set s₂ (k + 2) e.domain_len (lt-length-set s₁ (k + 1) e.domain (lt-length-set ns k e.kind (omega (arith, l)))))
 
       r₂ : get_or (laid ns k e) (k + 2) 0 ≡ e.domain_len
       r₂ = get_or-set_other s₄ (k + 4) (k + 2) e.path_len 0 (λ q. omega (arith, q, l))
@@ -88,18 +94,27 @@ unfolding laid_out
 length_laid_out rows ns zero = refl
 length_laid_out rows ns (suc i) = length-laid (laid_out rows ns i) (i * 5) (get_or rows i no_entry) ∙ length_laid_out rows ns i
 
+-- one entry more is laid out after the others
+pub laid_one_more : (rows : List RowEntry) (ns : List ℕ) (i : ℕ) → laid_out rows ns (i + 1) ≡ laid (laid_out rows ns i) (i * 5) (get_or rows i no_entry)
+unfolding laid_out
+laid_one_more rows ns i = let e : i + 1 ≡ suc i = omega arith in ap (laid_out rows ns) e
+
 -- one entry more is the one that stands after the others
 one_entry_more : (ns : List ℕ) (k n : ℕ) → entries_from ns k (suc n) ≡ entries_from ns k n ++ (entry_at ns (k + n * 5) ∷ [])
 unfolding entries_from
 one_entry_more ns k zero = ap (λ (m : ℕ). entry_at ns m ∷ []) (omega arith)
-one_entry_more ns k (suc n) = ap (λ (t : List RowEntry). entry_at ns k ∷ t) (one_entry_more ns (k + 5) n) ∙ ap (λ (m : ℕ). entry_at ns k ∷ (entries_from ns (k + 5) n ++ (entry_at ns m ∷ []))) (omega arith)
+one_entry_more ns k (suc n) =
+    ap (λ (t : List RowEntry). entry_at ns k ∷ t) (one_entry_more ns (k + 5) n)
+    ∙ ap (λ (m : ℕ). entry_at ns k ∷ (entries_from ns (k + 5) n ++ (entry_at ns m ∷ []))) (omega arith)
 
 pub laid-read : (rows : List RowEntry) (ns : List ℕ) (n : ℕ) → n ≤ length rows → n * 5 ≤ length ns → entries_of (laid_out rows ns n) n ≡ take n rows
 unfolding laid_out entries_from
 laid-read rows ns zero l h = refl
 laid-read rows ns (suc n) l h =
-    one_entry_more (laid_out rows ns (suc n)) 0 n ∙ ap (λ (m : ℕ). entries_from (laid_out rows ns (suc n)) 0 n ++ (entry_at (laid_out rows ns (suc n)) m ∷ [])) (omega arith)
-    ∙ (λ i. entries-before z (n * 5) e 0 n (omega arith) i ++ (there z (n * 5) e room i ∷ [])) ∙ ap (λ (t : List RowEntry). t ++ (e ∷ [])) (laid-read rows ns n (omega (arith, l)) (omega (arith, h)))
+    one_entry_more (laid_out rows ns (suc n)) 0 n
+    ∙ ap (λ (m : ℕ). entries_from (laid_out rows ns (suc n)) 0 n ++ (entry_at (laid_out rows ns (suc n)) m ∷ [])) (omega arith)
+    ∙ (λ i. entries-before z (n * 5) e 0 n (omega arith) i ++ (there z (n * 5) e room i ∷ []))
+    ∙ ap (λ (t : List RowEntry). t ++ (e ∷ [])) (laid-read rows ns n (omega (arith, l)) (omega (arith, h)))
     ∙ sym (take-suc rows n no_entry l)
   where
     z : List ℕ

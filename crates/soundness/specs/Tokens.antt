@@ -117,7 +117,7 @@ pub record Fresh (T : Table) (r : Row) (f : Tok) : Type 0 where
   pub new_r : (s : Row) → Memᴰ s T.R → length r.key < length s.key → get_or s.key (length r.key) [] ≡ f → ⊥
   pub new_d : (s : Row) → Memᴰ s T.D → length r.val < length s.key → get_or s.key (length r.val) [] ≡ f → ⊥
 
--- a candidate with a fresh token behind the row's path that is a domain part, or is none, as `isPart` says, and it comes back
+-- a candidate with a fresh token behind the row's path that is a domain part, or is none, as `is_part` says, and it comes back
 pub record Tried (T : Table) (r : Row) (is_part : Bool) : Type 0 where
   pub f : Tok
   pub fresh : Fresh T r f

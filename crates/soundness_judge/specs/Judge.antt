@@ -18,7 +18,7 @@ use Rattle.soundness.specs.Folded.{domain_row, token_table}
 use Rattle.soundness.specs.Tokens.{Back, Tried, pad}
 use Rattle.soundness.specs.declared.answers.Checked.{Checked}
 
--- The table was loaded, and is well_formed_lem.
+-- The table was loaded, and is well-formed.
 pub record Usable (s ds rs : List ℕ) (t : load.Loaded.Loaded) : Type 0 where
   pub kept : Kept s ds rs t
   pub formed : Formed (table_at s ds rs t)

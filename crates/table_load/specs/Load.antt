@@ -7,7 +7,7 @@ use Rattle.table.specs.Table.{Row, Table}
 use Rattle.table.specs.Formed.{Formed}
 use Rattle.table.specs.Lines as lines
 use Rattle.table.specs.Lines.{bad_row, malformed, most_rows, same_domain, same_path, well_formed, with_row}
-use Rattle.table.specs.Rows.{RowInside, between, line_at, table_at}
+use Rattle.table.specs.Rows.{RowInside, table_at}
 use Rattle.table.specs.declared.load as loaded
 use Rattle.table.specs.declared.load.TableRead.TheVariants.{Table as TableFound, Malformed}
 use Rattle.table.specs.declared.rows.Key.{Key}

@@ -1,4 +1,4 @@
--- Laws of folding and of comparing: `foldCase`, `foldText`, and `agree` over any test, of which `sameText` and `equalText` are two.
+-- Laws of folding and of comparing: `fold_case`, `fold_text`, and `agree` over any test, of which `same_text` and `equal_text` are two.
 -- Assumes nothing.
 use mathlib.Core.Path.{◌≡◌, refl, sym, ap, ◌∙◌}
 use mathlib.Core.Bool.{Bool, true, false, ◌&&◌, and_assoc, and-false}

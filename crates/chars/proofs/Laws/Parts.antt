@@ -1,5 +1,5 @@
 -- Laws of parts between separators: split and join undo each other, the run up to a separator, and the test of a text by one
--- pass, `partedFrom`, with what it says of the whole text.
+-- pass, `parted_from`, with what it says of the whole text.
 -- Assumes nothing.
 use mathlib.Core.Path.{◌≡◌, refl, sym, ap, ap₂, ◌∙◌}
 use Prim.Native.Nat.{ℕ, suc, ◌+◌, ◌-◌, ◌≤◌, ◌<◌}

@@ -31,7 +31,7 @@ digit_low b e = leb-true 48 b (and_left (leb 48 b) (leb b 57) e)
 
 -- ---- offsets fit their type
 
--- the size of `noOffset`, which none is greater than
+-- the size of `no_offset`, which none is greater than
 pub fits : (z : ℤ) → nat_abs z ≤ nat_abs no_offset → SFits w32 z
 fits (pos n) h = record { sfits = omega arith }
 fits (negsuc n) h = record { sfits = omega arith }

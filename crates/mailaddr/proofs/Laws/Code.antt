@@ -26,7 +26,7 @@ use Rattle.chars.proofs.Laws.Options.{ahead, ahead-nothing, ahead-onto, none-som
 use Rattle.chars.proofs.Laws.Seq.{some-length}
 use Rattle.chars.proofs.Laws.Spaces.{adjacent-append}
 use Rattle.chars.proofs.Laws.Write.{wrote-front, wrote_nothing, wrote_then}
-use Rattle.oraddr.specs.Bounds.{dd-value, bound_of, is_value}
+use Rattle.oraddr.specs.Bounds.{dd_value, bound_of, is_value}
 use Rattle.mailaddr.specs.declared.code.Group.{Group}
 use Rattle.mailaddr.specs.Answers.{Grouped, from_group, letter_group}
 use Rattle.mailaddr.specs.Code.{char_of, coded, coded_char, coded_from, decoded, decoded_after, index_of, is_letter_group, letter_of, longest_coded_char, numbered}
@@ -208,10 +208,10 @@ from_some [] h = h
 from_some (b ∷ s) h = some-length (coded_from false (b ∷ s)) (omega (arith, from-length false (b ∷ s)))
 
 -- a text with no space at its ends is coded as a value
-pub coded-value : (s : List ℕ) → all is_char s ≡ true → non_empty s ≡ true → (first s ≡ 32 → ⊥) → (last s ≡ 32 → ⊥) → length (coded s) ≤ bound_of dd-value → is_value dd-value (coded s) ≡ true
+pub coded-value : (s : List ℕ) → all is_char s ≡ true → non_empty s ≡ true → (first s ≡ 32 → ⊥) → (last s ≡ 32 → ⊥) → length (coded s) ≤ bound_of dd_value → is_value dd_value (coded s) ≡ true
 unfolding coded is_value is_text well_spaced
 coded-value s h n f l k =
-    and_both (le-leb (length (coded_from false s)) (bound_of dd-value) k)
+    and_both (le-leb (length (coded_from false s)) (bound_of dd_value) k)
     (rw (from_some s n, from_printable false s h, from_first false s h, ne_eqb (first s) 32 f, end (eqb (last (coded_from false s)) 32) (from_last false s h) (ne_eqb (last s) 32 l), from-adjacent false s h))
   where
     end : {q : Bool} (p : Bool) → (p ≡ true → q ≡ true) → q ≡ false → p ≡ false

@@ -4,18 +4,18 @@ use mathlib.Core.Path.{◌≡◌, refl, sym, ap, ◌∙◌}
 use mathlib.Core.Bool.{true, false, ◌||◌, cond}
 use mathlib.Core.List.{List, [], ◌∷◌}
 use mathlib.Core.Option.{Option, none, some}
-use Prim.Native.Nat.{ℕ, ◌-◌, ◌≤◌}
+use Prim.Native.Nat.{ℕ, ◌≤◌}
 use borrow.Author.Tests.{eqb-true}
 use native.Mathlib.Omega.{arith}
 use lib.Dec.{eqb}
-use lib.ListN.{length}
+use lib.ListN.{length, take, drop}
 use Rattle.chars.proofs.Laws.Lists.{by_test, neither, or_cases, true_not_false}
 use Rattle.lexical.specs.Answers.{tokens_by, tokens_of}
 use Rattle.lexical.specs.Tokens.{Token, Word, tokens_at, word}
 use Rattle.mailbox.specs.Answers.{ReadsMailbox, named_by, told_mailbox, whole_read}
 use Rattle.mailbox_address.proofs.Laws.Spec.{behind_other}
 use Rattle.mailbox_address.specs.Answers.{ReadsSpec, SpecText, is_end_kind, is_special_kind, is_word_kind, spec_text, told_spec}
-use Rattle.mailbox_address.specs.Grammar.{AddrSpec, Mailbox, addr_spec, addr_spec_in, allowed, any_quoted, at_domain, closed_by, domain, dotted, ended, local_part, mailbox, meaning_of, named, or_else, phrase_from, route_addr, route_in, whole, with_local}
+use Rattle.mailbox_address.specs.Grammar.{AddrSpec, Mailbox, addr_spec, addr_spec_in, allowed, any_quoted, at_domain, closed_by, dotted, ended, local_part, mailbox, meaning_of, named, or_else, phrase_from, route_addr, route_in, whole, with_local}
 use Rattle.mailbox.specs.Mailbox.{Bare, bare_of}
 use Rattle.mailbox.specs.declared.phrase.MailboxRead.{MailboxRead}
 use Rattle.mailbox_address.specs.declared.read.SpecRead.{SpecRead}
@@ -59,10 +59,11 @@ end_by start size x s Bad a e = refl
 told-whole : (s new : List ℕ) (a : SpecRead) (start size : ℕ) → told_mailbox (whole_read a start size) new ≡ whole_text start size (told_spec s a new)
 unfolding told_mailbox told_spec tokens_of
 told-whole s new a start size =
+    let x : SpecText = record { local = take a.local new; is_quoted = a.quoted; domain = drop a.local (take a.size new); rest = tokens_of s a.next } in
     by_test a.found
     (λ f. by_test (is_end_kind a.next.kind)
-    (λ e. rw (f, e) (sym (end_by start size _ s a.next.kind a.next.start a.next.end ∙ rw e)))
-    (λ e. rw (f, e) (sym (end_by start size _ s a.next.kind a.next.start a.next.end ∙ rw e))))
+    (λ e. rw (f, e) (sym (end_by start size x s a.next.kind a.next.start a.next.end ∙ rw e)))
+    (λ e. rw (f, e) (sym (end_by start size x s a.next.kind a.next.start a.next.end ∙ rw e))))
     (λ f. rw f)
 
 mailbox-told : (s new : List ℕ) (a : SpecRead) (start size : ℕ) (o : Option AddrSpec) → told_spec s a new ≡ spec_text o

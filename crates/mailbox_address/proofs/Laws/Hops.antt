@@ -5,11 +5,10 @@ use mathlib.Core.Path.{◌≡◌, refl, sym, ◌∙◌}
 use mathlib.Core.Bool.{Bool, true, false, cond}
 use mathlib.Core.List.{List, [], ◌∷◌}
 use mathlib.Core.Option.{Option, none, some}
-use Prim.Native.Nat.{ℕ}
 use lib.Dec.{eqb}
 use Rattle.chars.proofs.Laws.Lists.{by_test}
 use Rattle.lexical.specs.Tokens.{Token, Word, bad, special, word}
-use Rattle.mailbox_address.specs.Grammar.{Dotted, allowed, alone, before, behind_sub_domain, domain, dotted, element, route, sub_domain}
+use Rattle.mailbox_address.specs.Grammar.{Dotted, allowed, alone, before, domain, dotted, element, route, sub_domain}
 
 -- behind a domain: "," and further elements, or ":"
 unfoldable pub behind_hop : List Token → Option (List Token)

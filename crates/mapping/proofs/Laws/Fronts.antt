@@ -1,4 +1,4 @@
--- How long levels are in front of a domain, each with its dot: those of a canonical record take no more of a domain than `toldMost`.
+-- How long levels are in front of a domain, each with its dot: those of a canonical record take no more of a domain than `told_most`.
 -- Assumes nothing.
 use mathlib.Core.Path.{◌≡◌, refl, sym, ap, ◌∙◌}
 use mathlib.Core.Bool.{Bool, true}

@@ -1,9 +1,9 @@
 -- A record that address to record returns is canonical, carried whole or not.
 -- Assumes nothing.
-use mathlib.Core.Path.{◌≡◌, refl, ap, ◌∙◌}
-use mathlib.Core.Bool.{true, false, cond}
+use mathlib.Core.Path.{◌≡◌, refl}
+use mathlib.Core.Bool.{true}
 use mathlib.Core.List.{List}
-use Prim.Native.Nat.{ℕ, ◌≤◌}
+use Prim.Native.Nat.{ℕ}
 use native.Mathlib.Omega.{arith}
 use borrow.Author.Tests.{ltb-false}
 use lib.Dec.{ltb}
@@ -16,7 +16,7 @@ use Rattle.mailaddr.specs.Shape.{Address}
 use Rattle.table.specs.Table.{Table}
 use Rattle.table.specs.Formed.{Formed}
 use Rattle.mapping.specs.Carried.{carried_whole, carrying, longest_coded}
-use Rattle.mapping.specs.Results.{RecordResult, mapped, refused_record}
+use Rattle.mapping.specs.Results.{mapped, refused_record}
 use Rattle.mapping.specs.ToRecord.{record_by, to_record}
 use Rattle.mapping.proofs.Laws.CarriedBack.{carrier_canonical}
 use Rattle.mapping.proofs.Laws.Whole.{returned_canonical}

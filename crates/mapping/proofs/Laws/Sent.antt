@@ -24,13 +24,13 @@ use Rattle.chars.proofs.Laws.Lists.{all-at, all_weaken, and_both, and_left, and_
 use Rattle.chars.proofs.Laws.Parts.{split-at_sep}
 use Rattle.chars.proofs.Laws.Seq.{no_length, some-append, some_test}
 use Rattle.oraddr.specs.Attributes.{Attributes, Dd, levels, single_of}
-use Rattle.oraddr.specs.Bounds.{ADMD, C, c_letters, dd_type, dd-value, G, GQ, I, OU, S, bound_of, is_country, is_space, is_value, rule, level_count, single_count}
+use Rattle.oraddr.specs.Bounds.{ADMD, C, c_letters, dd_type, dd_value, G, GQ, I, OU, S, bound_of, is_country, is_space, is_value, rule, level_count, single_count}
 use Rattle.oraddr.specs.Canonical.{canonical, canonical_record, is_dd, is_unit, kept}
 use Rattle.oraddr.specs.View.{view}
 use Rattle.oraddr.specs.declared.record.Record.{Record}
 use Rattle.oraddr.proofs.Laws.Canonical.{canonical-view}
 use Rattle.ortext_read.specs.Apply.{Reading}
-use Rattle.ortext_segments.specs.Keys.{dd-key, ou-key, pn_key, short-keys, key_count, keys}
+use Rattle.ortext_segments.specs.Keys.{dd_key, ou_key, pn_key, short_keys, key_count, keys}
 use Rattle.ortext_name.specs.Name.{dotted, given_text, is_short, name_text}
 use Rattle.ortext_write.specs.Write.{dd_segment, has_short, joined, key_value, local_text, long_dd, name_in, only_name, order, plain_segment, quoted, record_text, remaining, segments_at, segments_in, segments_text, writes_short}
 use Rattle.ortext_segments.proofs.Laws.Keys.{dot, key-clear}
@@ -194,18 +194,18 @@ key_quiet k h = not-true (adjacent (get_or keys k [])) (all-at (λ s. not (adjac
 unit_sealed : (v : List ℕ) → is_unit v ≡ true → Sealed (unit_text v)
 unfolding is_unit
 unit_sealed v h =
-    rw (plain-text ou-key v (λ q. omega arith)) (sealed_key_value (get_or keys ou-key []) v (key_quiet ou-key (lit< tt)) (value_quiet OU v h))
+    rw (plain-text ou_key v (λ q. omega arith)) (sealed_key_value (get_or keys ou_key []) v (key_quiet ou_key (lit< tt)) (value_quiet OU v h))
 
 dd_sealed : (d : Dd) → is_dd d ≡ true → Sealed (dd_text d)
 unfolding is_dd long_dd
 dd_sealed d h =
-    let t = value_quiet dd_type d.kind (and_left (is_value dd_type d.kind) (is_value dd-value d.value) h) in
-    let v = value_quiet dd-value d.value (and_right (is_value dd_type d.kind) (is_value dd-value d.value) h) in
+    let t = value_quiet dd_type d.kind (and_left (is_value dd_type d.kind) (is_value dd_value d.value) h) in
+    let v = value_quiet dd_value d.value (and_right (is_value dd_type d.kind) (is_value dd_value d.value) h) in
     by_test (has_short keys d.kind)
-    (λ e. rw (dd-short d.kind d.value e) (sealed_key_value (get_or keys short-keys []) d.value (key_quiet short-keys (lit< tt)) v))
+    (λ e. rw (dd-short d.kind d.value e) (sealed_key_value (get_or keys short_keys []) d.value (key_quiet short_keys (lit< tt)) v))
     (λ e. rw (dd_long d.kind d.value e)
-    (sealed_key_value (get_or keys dd-key [] ++ 46 ∷ quoted d.kind) d.value
-    (quiet_append (get_or keys dd-key []) (46 ∷ quoted d.kind) (key_quiet dd-key (lit< tt)) (sealed_byte 46 (quoted d.kind) refl (adjacent-quoted d.kind ∙ t)))
+    (sealed_key_value (get_or keys dd_key [] ++ 46 ∷ quoted d.kind) d.value
+    (quiet_append (get_or keys dd_key []) (46 ∷ quoted d.kind) (key_quiet dd_key (lit< tt)) (sealed_byte 46 (quoted d.kind) refl (adjacent-quoted d.kind ∙ t)))
     v))
 
 module _ (a : Attributes) (r : Ruled a) where
@@ -216,21 +216,21 @@ module _ (a : Attributes) (r : Ruled a) where
       (λ e. rw (single-some a k h (ltb-true 0 (length v) e)) (sealed_key_value (get_or keys k []) v (key_quiet k (omega arith)) (kept_quiet k v (r.singles k))))
       (λ e. rw (single-none keys a k h (no_length v (ltb-false 0 (length v) e))) sealed_none)
 
-  dds_sealed : Sealed (key_text a dd-key)
+  dds_sealed : Sealed (key_text a dd_key)
   unfolding segments_at
   dds_sealed = rw (joined-map keys dd_segment a.dds) (sealed_flat dd_text is_dd dd_sealed a.dds r.dds)
 
-  units_sealed : Sealed (key_text a ou-key)
+  units_sealed : Sealed (key_text a ou_key)
   unfolding segments_at
-  units_sealed = rw (joined-map keys (plain_segment ou-key)) (sealed_back unit_text is_unit unit_sealed a.units [] r.units sealed_none)
+  units_sealed = rw (joined-map keys (plain_segment ou_key)) (sealed_back unit_text is_unit unit_sealed a.units [] r.units sealed_none)
 
   at_sealed : (k : ℕ) → ltb k pn_key ≡ true → Sealed (key_text a k)
   at_sealed k h =
-      by_test (eqb k dd-key)
-      (λ e. rw (eqb-true k dd-key e) dds_sealed)
-      (λ e. by_test (eqb k ou-key)
-      (λ f. rw (eqb-true k ou-key f) units_sealed)
-      (λ f. own_sealed k (omega (arith, ltb-true k pn_key h, eqb-false k dd-key e, eqb-false k ou-key f))))
+      by_test (eqb k dd_key)
+      (λ e. rw (eqb-true k dd_key e) dds_sealed)
+      (λ e. by_test (eqb k ou_key)
+      (λ f. rw (eqb-true k ou_key f) units_sealed)
+      (λ f. own_sealed k (omega (arith, ltb-true k pn_key h, eqb-false k dd_key e, eqb-false k ou_key f))))
 
   record_spaced : well_spaced (record_text keys a) ≡ true
   unfolding record_text segments_text last all

@@ -1,7 +1,7 @@
 -- The text that a canonical record goes out as is short, a carrier's too.
 -- Assumes nothing.
 use mathlib.Core.Path.{◌≡◌, sym, subst, ◌∙◌}
-use mathlib.Core.Bool.{true, false, ◌&&◌}
+use mathlib.Core.Bool.{true}
 use mathlib.Core.List.{List, [], ◌∷◌}
 use mathlib.Core.Option.{Option, none, some, some-injective}
 use Prim.Native.Nat.{ℕ, ◌≤◌, zero-le}
@@ -10,7 +10,7 @@ use lib.ListN.{length}
 use Rattle.chars.specs.Lists.{all}
 use Rattle.chars.proofs.Laws.Lists.{and_left, and_right, by_test}
 use Rattle.oraddr.specs.Attributes.{Dd}
-use Rattle.oraddr.specs.Bounds.{dd_type, dd-value, is_value, single_count}
+use Rattle.oraddr.specs.Bounds.{dd_type, dd_value, is_value, single_count}
 use Rattle.oraddr.specs.Canonical.{canonical_record, is_dd}
 use Rattle.oraddr.specs.View.{view}
 use Rattle.oraddr.specs.declared.record.Record.{Record}
@@ -40,7 +40,7 @@ value-short : (ds : List Dd) → all is_dd ds ≡ true → length (carried_value
 unfolding carried_value all is_dd
 value-short [] h = zero-le
 value-short (d ∷ ds) h =
-    value-length dd-value d.value (and_right (is_value dd_type d.kind) (is_value dd-value d.value) (and_left (is_dd d) (all is_dd ds) h))
+    value-length dd_value d.value (and_right (is_value dd_type d.kind) (is_value dd_value d.value) (and_left (is_dd d) (all is_dd ds) h))
 
 carried-short : (ds : List Dd) (s : List ℕ) → all is_dd ds ≡ true → carried_address ds ≡ some s → length s ≤ longest_coded
 unfolding carried_address

@@ -17,7 +17,7 @@ use Rattle.chars.proofs.Laws.Lists.{all-and, all_append, all_drop, all_weaken, a
 use Rattle.chars.proofs.Laws.Seq.{map-drop}
 use Rattle.oraddr.specs.Add.{add_dd, add_single, add_unit, outcome, push_dd, push_unit, set_single}
 use Rattle.oraddr.specs.Attributes.{no_dd, single_of}
-use Rattle.oraddr.specs.Bounds.{dd_type, dd-value, O, OU, bound_of, is_value, most, rule, single_count}
+use Rattle.oraddr.specs.Bounds.{dd_type, dd_value, O, OU, bound_of, is_value, most, rule, single_count}
 use Rattle.oraddr.specs.Canonical.{is_dd, is_unit}
 use Rattle.oraddr.specs.View.{clean, clean_dd, clean_dds, clean_singles, clean_text, clean_units, dd_in_range, dd_value_of, dd_value_view, dd_view, dds_in_range, dds_view, domain_defined_of, empty_record, in_range, kind_of, kind_view, org_unit_of, singles_in_range, singles_view, unit_view, units_in_range, units_view, value_of, value_view, view}
 use Rattle.oraddr.specs.declared.record.Record.{Record}
@@ -45,7 +45,7 @@ unfoldable pub unit_room : OrgUnit → Bool
 unit_room v = eqb (length v.bytes) (bound_of OU)
 
 unfoldable pub dd_room : DomainDefined → Bool
-dd_room d = eqb (length d.kind.bytes) (bound_of dd_type) && eqb (length d.value.bytes) (bound_of dd-value)
+dd_room d = eqb (length d.kind.bytes) (bound_of dd_type) && eqb (length d.value.bytes) (bound_of dd_value)
 
 pub record Roomy (r : Record) : Type 0 where
   pub values : all value_room r.singles.values ≡ true
@@ -118,13 +118,13 @@ module _ (r : Record) (m : Made r) where
     cleaned = and_both (and_both cleans.0 (push_clean (λ w. clean_text w.len w.bytes) (λ w. eqb w.len 0) r.units.names r.units.count (org_unit_of v) cleans.1 (made_clean v (bound_of OU)))) cleans.2;
   }
 
-  dd_made : (t v : List ℕ) → r.dds.count < most → length t ≤ bound_of dd_type → length v ≤ bound_of dd-value → Made (record { singles = r.singles; units = r.units; dds = push_dd r.dds (domain_defined_of t v) })
+  dd_made : (t v : List ℕ) → r.dds.count < most → length t ≤ bound_of dd_type → length v ≤ bound_of dd_value → Made (record { singles = r.singles; units = r.units; dds = push_dd r.dds (domain_defined_of t v) })
   unfolding push_dd domain_defined_of kind_of dd_value_of dd_room in_range dds_in_range dd_in_range clean clean_dds clean_dd
   dd_made t v l g h = record {
     shaped = record { values = m.shaped.values; names = m.shaped.names; items = length-set r.dds.items r.dds.count (domain_defined_of t v) ∙ m.shaped.items };
-    roomy = record { values = m.roomy.values; names = m.roomy.names; items = all_set dd_room r.dds.items r.dds.count (domain_defined_of t v) m.roomy.items (and_both (room_made t (bound_of dd_type) g) (room_made v (bound_of dd-value) h)) };
-    ranged = and_both (and_both ranges.0 ranges.1) (push_ranged dd_in_range r.dds.items r.dds.count (domain_defined_of t v) l m.shaped.items ranges.2 (and_both (le-leb (length t) (bound_of dd_type) g) (le-leb (length v) (bound_of dd-value) h)));
-    cleaned = and_both (and_both cleans.0 cleans.1) (push_clean clean_dd (λ i. eqb i.kind.len 0 && eqb i.value.len 0) r.dds.items r.dds.count (domain_defined_of t v) cleans.2 (and_both (made_clean t (bound_of dd_type)) (made_clean v (bound_of dd-value))));
+    roomy = record { values = m.roomy.values; names = m.roomy.names; items = all_set dd_room r.dds.items r.dds.count (domain_defined_of t v) m.roomy.items (and_both (room_made t (bound_of dd_type) g) (room_made v (bound_of dd_value) h)) };
+    ranged = and_both (and_both ranges.0 ranges.1) (push_ranged dd_in_range r.dds.items r.dds.count (domain_defined_of t v) l m.shaped.items ranges.2 (and_both (le-leb (length t) (bound_of dd_type) g) (le-leb (length v) (bound_of dd_value) h)));
+    cleaned = and_both (and_both cleans.0 cleans.1) (push_clean clean_dd (λ i. eqb i.kind.len 0 && eqb i.value.len 0) r.dds.items r.dds.count (domain_defined_of t v) cleans.2 (and_both (made_clean t (bound_of dd_type)) (made_clean v (bound_of dd_value))));
   }
 
   pub made_single : (k : ℕ) (v : List ℕ) → k < single_count → Made (add_single r k v).record'
@@ -150,8 +150,8 @@ module _ (r : Record) (m : Made r) where
       let dd = is_dd (record { kind = t; value = v }) in
       outcome_keeps Made (dd && free) (record { singles = r.singles; units = r.units; dds = push_dd r.dds (domain_defined_of t v) }) r
       (λ e. dd_made t v (ltb-true r.dds.count most (and_right dd free e))
-      (value-length dd_type t (and_left (is_value dd_type t) (is_value dd-value v) (and_left dd free e)))
-      (value-length dd-value v (and_right (is_value dd_type t) (is_value dd-value v) (and_left dd free e))))
+      (value-length dd_type t (and_left (is_value dd_type t) (is_value dd_value v) (and_left dd free e)))
+      (value-length dd_value v (and_right (is_value dd_type t) (is_value dd_value v) (and_left dd free e))))
       m
 
 -- ---- two of them that hold the same attributes are equal
@@ -246,22 +246,22 @@ kind-path : (v w : DdType) → fit (bound_of dd_type) v.len v.bytes ≡ true →
 unfolding kind_view
 kind-path v w h k e = struct-path (λ n b. record { len = n; bytes = b }) (bound_of dd_type) v.len w.len v.bytes w.bytes h k e
 
-dd-value-path : (v w : DdValue) → fit (bound_of dd-value) v.len v.bytes ≡ true → fit (bound_of dd-value) w.len w.bytes ≡ true → dd_value_view v ≡ dd_value_view w → v ≡ w
+dd_value-path : (v w : DdValue) → fit (bound_of dd_value) v.len v.bytes ≡ true → fit (bound_of dd_value) w.len w.bytes ≡ true → dd_value_view v ≡ dd_value_view w → v ≡ w
 unfolding dd_value_view
-dd-value-path v w h k e = struct-path (λ n b. record { len = n; bytes = b }) (bound_of dd-value) v.len w.len v.bytes w.bytes h k e
+dd_value-path v w h k e = struct-path (λ n b. record { len = n; bytes = b }) (bound_of dd_value) v.len w.len v.bytes w.bytes h k e
 
 abbrev dd_fit : DomainDefined → Bool
 dd_fit d = dd_room d && dd_in_range d && clean_dd d
 
 -- a DD's room, range and cleanness, by its two texts
-dd_fit_lem : (d : DomainDefined) → dd_fit d ≡ true → (fit (bound_of dd_type) d.kind.len d.kind.bytes ≡ true) × (fit (bound_of dd-value) d.value.len d.value.bytes ≡ true)
+dd_fit_lem : (d : DomainDefined) → dd_fit d ≡ true → (fit (bound_of dd_type) d.kind.len d.kind.bytes ≡ true) × (fit (bound_of dd_value) d.value.len d.value.bytes ≡ true)
 unfolding dd_room dd_in_range clean_dd
 dd_fit_lem d h =
     let p = and-three (dd_room d) (dd_in_range d) (clean_dd d) h in
     let a = eqb (length d.kind.bytes) (bound_of dd_type) in
-    let b = eqb (length d.value.bytes) (bound_of dd-value) in
+    let b = eqb (length d.value.bytes) (bound_of dd_value) in
     let i = leb d.kind.len (bound_of dd_type) in
-    let j = leb d.value.len (bound_of dd-value) in
+    let j = leb d.value.len (bound_of dd_value) in
     let x = clean_text d.kind.len d.kind.bytes in
     let y = clean_text d.value.len d.value.bytes in (
       and_both (and_both (and_left a b p.0) (and_left i j p.1)) (and_left x y p.2),
@@ -273,7 +273,7 @@ unfolding dd_view
 dd-path d e h k v =
     ap₂ (λ a b. record { kind = a; value = b })
     (kind-path d.kind e.kind (dd_fit_lem d h).0 (dd_fit_lem e k).0 (ap (λ x. x.kind) v))
-    (dd-value-path d.value e.value (dd_fit_lem d h).1 (dd_fit_lem e k).1 (ap (λ x. x.value) v))
+    (dd_value-path d.value e.value (dd_fit_lem d h).1 (dd_fit_lem e k).1 (ap (λ x. x.value) v))
 
 -- what is empty shows nothing, and is in range
 abbrev empty_unit : OrgUnit → Bool
@@ -299,7 +299,7 @@ unfolding dd_in_range
 dd-empty_ranged i h =
     and_both
     (empty_ranged i.kind.len (bound_of dd_type) (and_left (eqb i.kind.len 0) (eqb i.value.len 0) h))
-    (empty_ranged i.value.len (bound_of dd-value) (and_right (eqb i.kind.len 0) (eqb i.value.len 0) h))
+    (empty_ranged i.value.len (bound_of dd_value) (and_right (eqb i.kind.len 0) (eqb i.value.len 0) h))
 
 module _ (r : Record) (m : Made r) where
   values_fit : all (λ v. fit (bound_of O) v.len v.bytes) r.singles.values ≡ true

@@ -14,7 +14,7 @@ use Rattle.chars.specs.Write.{Wrote, front}
 use Rattle.chars.proofs.Laws.Lists.{all_drop}
 use Rattle.chars.proofs.Laws.Case.{agree_lengths_differ}
 use Rattle.chars.proofs.Laws.Write.{length_front, take-front, drop-front, wrote-front}
-use Rattle.oraddr.specs.Bounds.{bound_of, is_space, O, OU, dd_type, dd-value}
+use Rattle.oraddr.specs.Bounds.{bound_of, is_space, O, OU, dd_type, dd_value}
 use Rattle.oraddr.specs.View.{clean_text, dd_value_of, dd_value_view, dd_view, domain_defined_of, kind_of, kind_view, org_unit_of, unit_view, value_of, value_view}
 
 -- ---- over the room
@@ -68,10 +68,10 @@ pub view-kind : (s : List ℕ) → kind_view (kind_of s) ≡ s
 unfolding kind_view kind_of
 view-kind s = made s (bound_of dd_type)
 
-pub view-dd-value : (s : List ℕ) → dd_value_view (dd_value_of s) ≡ s
+pub view-dd_value : (s : List ℕ) → dd_value_view (dd_value_of s) ≡ s
 unfolding dd_value_view dd_value_of
-view-dd-value s = made s (bound_of dd-value)
+view-dd_value s = made s (bound_of dd_value)
 
 pub view-dd : (t s : List ℕ) → dd_view (domain_defined_of t s) ≡ record { kind = t; value = s }
 unfolding dd_view domain_defined_of
-view-dd t s = rw (view-kind t, view-dd-value s)
+view-dd t s = rw (view-kind t, view-dd_value s)

@@ -15,7 +15,7 @@ use Rattle.chars.specs.Lists.{non_empty}
 use Rattle.chars.proofs.Laws.Lists.{and_both, and_left, and_right, by_test, or_left, or_right, true_not_false}
 use Rattle.chars.proofs.Laws.Seq.{some-length}
 use Rattle.oraddr.specs.Attributes.{Dd}
-use Rattle.oraddr.specs.Bounds.{dd_type, dd-value, G, I, O, OU, S, bound_of, is_value, most, rule, single_count}
+use Rattle.oraddr.specs.Bounds.{dd_type, dd_value, G, I, O, OU, S, bound_of, is_value, most, rule, single_count}
 use Rattle.oraddr.specs.Canonical.{all_kept, is_dd, is_unit, kept}
 use Rattle.oraddr.specs.Add.{Outcome, add_dd, add_single, add_unit, number_of, outcome, push_dd, push_unit, told}
 use Rattle.oraddr.specs.declared.add.Added.TheVariants.{Done, Refused}
@@ -96,9 +96,9 @@ pub kind_long : (r : Record) (t v : List ℕ) → bound_of dd_type < length t �
 unfolding add_dd outcome is_dd
 kind_long r t v h = rw (not-kept (is_value dd_type t) (λ e. omega (arith, value-length dd_type t e)))
 
-pub dd_long : (r : Record) (t v : List ℕ) → bound_of dd-value < length v → record { number = 4; record' = r } ≡ add_dd r t v
+pub dd_long : (r : Record) (t v : List ℕ) → bound_of dd_value < length v → record { number = 4; record' = r } ≡ add_dd r t v
 unfolding add_dd outcome is_dd
-dd_long r t v h = rw (not-kept (is_value dd-value v) (λ e. omega (arith, value-length dd-value v e)), and-false)
+dd_long r t v h = rw (not-kept (is_value dd_value v) (λ e. omega (arith, value-length dd_value v e)), and-false)
 
 -- ---- what was added keeps the rules
 
@@ -214,7 +214,7 @@ name_some r n f =
     absurd (f (kept-length G n.given (omega arith) g) (kept-length I n.initials (omega arith) i) (kept-length S n.surname (omega arith) s)))
     (λ e. rw e)
 
-pub name_long : (r : Record) (t : List ℕ) → bound_of dd-value < length t → none ≡ done (add_name r (read_name t))
+pub name_long : (r : Record) (t : List ℕ) → bound_of dd_value < length t → none ≡ done (add_name r (read_name t))
 name_long r t h = long (read_name t) refl
   where
     long : (o : Option Name) → read_name t ≡ o → none ≡ done (add_name r o)

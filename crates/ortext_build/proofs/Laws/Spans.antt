@@ -14,7 +14,7 @@ use lib.Seq.{length-take-le, slice, slice-cons, slice_empty, drop-nil, take-nil}
 use Rattle.chars.specs.Lists.{non_empty}
 use Rattle.chars.proofs.Laws.Lists.{by_test}
 use Rattle.chars.proofs.Laws.Seq.{some-length}
-use Rattle.ortext_segments.specs.Keys.{dd-key}
+use Rattle.ortext_segments.specs.Keys.{dd_key}
 use Rattle.ortext_segments.specs.Segments.{unquoted}
 use Rattle.ortext_segments.specs.Scan.{kind_text, span_text}
 use Rattle.ortext_build.specs.Adding.{Fronted}
@@ -38,7 +38,7 @@ unfolding span_text
 span_slice s p = ap unquoted (take-drop p.start p.len s)
 
 -- a DD's type at a span
-pub kind_span : (s : List ℕ) (p : Span) → (p.start ≡ 0 → ⊥) → kind_text s dd-key p ≡ span_text s p
+pub kind_span : (s : List ℕ) (p : Span) → (p.start ≡ 0 → ⊥) → kind_text s dd_key p ≡ span_text s p
 unfolding kind_text
 kind_span s p h = rw (ne_eqb p.start 0 h)
 

@@ -10,7 +10,7 @@ use lib.Dec.{eqb, ltb}
 use lib.ListN.{get_or, replicate, set, length-set}
 use Rattle.chars.proofs.Laws.Lists.{by_test}
 use Rattle.oraddr.specs.Bounds.{most}
-use Rattle.ortext_segments.specs.Keys.{dd-key, ou-key}
+use Rattle.ortext_segments.specs.Keys.{dd_key, ou_key}
 use Rattle.ortext_segments.specs.Segments.{unknown}
 use Rattle.ortext_segments.specs.declared.scan.Found.{Found}
 use Rattle.ortext_named.specs.Named.{AllSound, Sound, is_absent, no_span, nothing, place_at, spoiled, with_dd, with_found, with_once, with_unit}
@@ -57,8 +57,8 @@ module _ (s : List ℕ) (m : Named) (h : AllSound s m) (f : Found) (v : Sound s 
   pub sound-found : AllSound s (with_found m f)
   unfolding with_found
   sound-found =
-      by_test (eqb f.key ou-key) (λ e. rw e sound_unit)
-      (λ e. by_test (eqb f.key dd-key) (λ d. rw (e, d) sound-dd)
+      by_test (eqb f.key ou_key) (λ e. rw e sound_unit)
+      (λ e. by_test (eqb f.key dd_key) (λ d. rw (e, d) sound-dd)
       (λ d. by_test (ltb f.key unknown) (λ l. rw (e, d, l) sound-once) (λ l. rw (e, d, l) sound-spoiled)))
 
 -- ---- nothing named

@@ -18,7 +18,7 @@ use Rattle.oraddr.specs.View.{empty_record, view}
 use Rattle.oraddr.specs.Add.{Outcome, add_single}
 use Rattle.oraddr.specs.declared.record.Record.{Record}
 use Rattle.ortext_read.proofs.Laws.Apply.{complete_has}
-use Rattle.ortext_read.specs.Answers.{ReadingResult, answer_number, answered, read_held, reading, reading_result, told_reading}
+use Rattle.ortext_read.specs.Answers.{ReadingResult, answered, read_held, reading, reading_result, told_reading}
 use Rattle.ortext_read.specs.Apply as apply
 use Rattle.ortext_read.specs.Apply.{add_all, add_named, again, complete, finish, name_alone, or_name, read, read_as_name, read_local, read_text, refused, unread}
 use Rattle.ortext_build.specs.Adding.{add_dds, add_singles, add_units, add_held, add_name, done, start}

@@ -15,11 +15,11 @@ use Rattle.chars.specs.Lists.{all, non_empty}
 use Rattle.chars.specs.Parts.{run}
 use Rattle.chars.proofs.Laws.Lists.{all_append, and_left, and_right, by_test, true_not_false}
 use Rattle.oraddr.specs.Bounds.{most, own_levels, single_count}
-use Rattle.ortext_segments.specs.Keys.{dd-key, ou-key, pn_key}
+use Rattle.ortext_segments.specs.Keys.{dd_key, ou_key, pn_key}
 use Rattle.ortext_name.specs.Name.{after_given, after_initials, has_given, read_name}
 use Rattle.ortext_segments.specs.Segments.{Segment, unknown}
 use Rattle.ortext_segments.specs.Scan.{Segmented, found_segment, kind_text, span_text}
-use Rattle.ortext_read.specs.Apply.{add_named, again, dds_of, name_of, named, named_again, value_at, values_at}
+use Rattle.ortext_read.specs.Apply.{add_named, dds_of, name_of, named, named_again, value_at, values_at}
 use Rattle.ortext_named.proofs.Laws.Sound.{get_d_own, sound-found, sound-nothing}
 use Rattle.ortext_named.specs.Named.{AllSound, Sound, is_absent, no_span, nothing, place_at, spoiled, take_found, with_dd, with_found, with_once, with_unit}
 use Rattle.ortext_build.specs.Adding.{dd_at}
@@ -38,13 +38,13 @@ held_at s p = cond (is_absent p) [] (span_text s p ∷ [])
 -- a key that stands once
 pub record Once (k : ℕ) : Type 0 where
   pub low : k < unknown
-  pub no_unit : k ≡ ou-key → ⊥
-  pub no_dd_lem : k ≡ dd-key → ⊥
+  pub no_unit : k ≡ ou_key → ⊥
+  pub no_dd_lem : k ≡ dd_key → ⊥
 
 pub record Places (s : List ℕ) (m : Named) (gs : List Segment) : Type 0 where
   pub once : (k : ℕ) → Once k → values_at k gs ≡ held_at s (place_at m k)
   pub known : values_at unknown gs ≡ []
-  pub units : values_at ou-key gs ≡ map (span_text s) (take m.unit_count m.units)
+  pub units : values_at ou_key gs ≡ map (span_text s) (take m.unit_count m.units)
   pub dds : dds_of gs ≡ map (dd_at s) (take m.dd_count m.dds)
 
 -- what is held of the segments read so far, unless a settled level is named again
@@ -96,12 +96,12 @@ module _ (s : List ℕ) (m : Named) (h : AllSound s m) (f : Found) (v : Sound s 
         (λ a. let l : values_at f.key (next ++ hs) ≡ span_text s (place_at m f.key) ∷ span_text s f.value ∷ values_at f.key hs = values_then f.key refl hs ∙ rw (p.once f.key o, a) in
         none-refused r (named (next ++ hs)) (repeated_none (next ++ hs) f.key o.low o.no_unit o.no_dd_lem (omega (arith, ap length l))))
 
-    unit_spoiled : f.key ≡ ou-key → ltb m.unit_count most ≡ false → Spoiled next
+    unit_spoiled : f.key ≡ ou_key → ltb m.unit_count most ≡ false → Spoiled next
     unit_spoiled k e hs r =
         many-units (next ++ hs) r
-        (omega (arith, ltb-false m.unit_count most e, length-take m.unit_count m.units, h.units-room, length-map (take m.unit_count m.units) (span_text s), simp length-append at (ap length (values_then ou-key k hs ∙ ap (λ l. (l ++ span_text s f.value ∷ []) ++ values_at ou-key hs) p.units))))
+        (omega (arith, ltb-false m.unit_count most e, length-take m.unit_count m.units, h.units-room, length-map (take m.unit_count m.units) (span_text s), simp length-append at (ap length (values_then ou_key k hs ∙ ap (λ l. (l ++ span_text s f.value ∷ []) ++ values_at ou_key hs) p.units))))
 
-    dd-spoiled : f.key ≡ dd-key → ltb m.dd_count most ≡ false → Spoiled next
+    dd-spoiled : f.key ≡ dd_key → ltb m.dd_count most ≡ false → Spoiled next
     dd-spoiled k e hs r =
         many-dds (next ++ hs) r
         (omega (arith, ltb-false m.dd_count most e, length-take m.dd_count m.dds, h.dds-room, length-map (take m.dd_count m.dds) (dd_at s), simp length-append at (ap length (dds-append next hs ∙ ap (λ l. l ++ dds_of hs) (dds-here gs seg k ∙ ap (λ l. l ++ record { kind = kind_text s f.key f.kind; value = span_text s f.value } ∷ []) p.dds)))))
@@ -110,23 +110,23 @@ module _ (s : List ℕ) (m : Named) (h : AllSound s m) (f : Found) (v : Sound s 
     unknown-spoiled k hs r =
         none-refused r (named (next ++ hs)) (unknown-none (next ++ hs) (ap non_empty (values_then unknown k hs ∙ rw p.known) ∙ some_first (span_text s f.value) (values_at unknown hs)))
 
-    unit_places : f.key ≡ ou-key → m.unit_count < most
+    unit_places : f.key ≡ ou_key → m.unit_count < most
         → Places s (record { once = m.once; units = set m.units m.unit_count f.value; unit_count = m.unit_count + 1; dds = m.dds; dd_count = m.dd_count; again = m.again; bad = m.bad }) next
     unit_places k l =
         record {
           once = λ j o. values_other gs seg j (λ e. o.no_unit (sym e ∙ k)) ∙ p.once j o;
           known = values_other gs seg unknown (λ e. omega arith) ∙ p.known;
-          units = values-here gs seg ou-key k ∙ ap (λ l. l ++ span_text s f.value ∷ []) p.units ∙ sym (rw (add-one m.unit_count, take-suc-set m.units m.unit_count f.value (omega (arith, h.units-room)), map-append));
+          units = values-here gs seg ou_key k ∙ ap (λ l. l ++ span_text s f.value ∷ []) p.units ∙ sym (rw (add-one m.unit_count, take-suc-set m.units m.unit_count f.value (omega (arith, h.units-room)), map-append));
           dds = dds_other gs seg (λ e. omega arith) ∙ p.dds;
         }
 
-    dd-places : f.key ≡ dd-key → m.dd_count < most
+    dd-places : f.key ≡ dd_key → m.dd_count < most
         → Places s (record { once = m.once; units = m.units; unit_count = m.unit_count; dds = set m.dds m.dd_count (record { kind = f.kind; value = f.value }); dd_count = m.dd_count + 1; again = m.again; bad = m.bad }) next
     dd-places k l =
         record {
           once = λ j o. values_other gs seg j (λ e. o.no_dd_lem (sym e ∙ k)) ∙ p.once j o;
           known = values_other gs seg unknown (λ e. omega arith) ∙ p.known;
-          units = values_other gs seg ou-key (λ e. omega arith) ∙ p.units;
+          units = values_other gs seg ou_key (λ e. omega arith) ∙ p.units;
           dds =
               dds-here gs seg k ∙ ap (λ l. l ++ record { kind = kind_text s f.key f.kind; value = span_text s f.value } ∷ []) p.dds
               ∙ ap (λ j. map (dd_at s) (take m.dd_count m.dds) ++ record { kind = kind_text s j f.kind; value = span_text s f.value } ∷ []) k
@@ -139,7 +139,7 @@ module _ (s : List ℕ) (m : Named) (h : AllSound s m) (f : Found) (v : Sound s 
         record {
           once = λ j q. by_test (eqb f.key j) (λ e. here j (eqb-true f.key j e)) (λ e. values_other gs seg j (eqb-false f.key j e) ∙ p.once j q ∙ ap (held_at s) (sym (get_or-set_other m.once f.key j f.value no_span (λ i. eqb-false f.key j e (sym i)))));
           known = values_other gs seg unknown (λ e. omega (arith, o.low)) ∙ p.known;
-          units = values_other gs seg ou-key o.no_unit ∙ p.units;
+          units = values_other gs seg ou_key o.no_unit ∙ p.units;
           dds = dds_other gs seg o.no_dd_lem ∙ p.dds;
         }
       where
@@ -156,14 +156,14 @@ module _ (s : List ℕ) (m : Named) (h : AllSound s m) (f : Found) (v : Sound s 
           good = λ e. true_not_false true refl e;
         }
 
-    fair_unit : f.key ≡ ou-key → Fair s (with_unit m f.value) next
+    fair_unit : f.key ≡ ou_key → Fair s (with_unit m f.value) next
     unfolding with_unit
     fair_unit k =
         by_test (ltb m.unit_count most)
         (λ e. rw e (record { bad = λ b. more (fr.bad b); good = λ b. unit_places (fr.good b) k (ltb-true m.unit_count most e) }))
         (λ e. rw e (fair_spoiled (λ p. unit_spoiled p k e)))
 
-    fair_dd : f.key ≡ dd-key → Fair s (with_dd m (record { kind = f.kind; value = f.value })) next
+    fair_dd : f.key ≡ dd_key → Fair s (with_dd m (record { kind = f.kind; value = f.value })) next
     unfolding with_dd
     fair_dd k =
         by_test (ltb m.dd_count most)
@@ -182,10 +182,10 @@ module _ (s : List ℕ) (m : Named) (h : AllSound s m) (f : Found) (v : Sound s 
     fair_found : Fair s (with_found m f) next
     unfolding with_found
     fair_found =
-        by_test (eqb f.key ou-key) (λ e. rw e (fair_unit (eqb-true f.key ou-key e)))
-        (λ e. by_test (eqb f.key dd-key) (λ d. rw (e, d) (fair_dd (eqb-true f.key dd-key d)))
+        by_test (eqb f.key ou_key) (λ e. rw e (fair_unit (eqb-true f.key ou_key e)))
+        (λ e. by_test (eqb f.key dd_key) (λ d. rw (e, d) (fair_dd (eqb-true f.key dd_key d)))
         (λ d. by_test (ltb f.key unknown)
-        (λ l. rw (e, d, l) (fair_once (record { low = ltb-true f.key unknown l; no_unit = eqb-false f.key ou-key e; no_dd_lem = eqb-false f.key dd-key d })))
+        (λ l. rw (e, d, l) (fair_once (record { low = ltb-true f.key unknown l; no_unit = eqb-false f.key ou_key e; no_dd_lem = eqb-false f.key dd_key d })))
         (λ l. rw (e, d, l) (fair_spoiled (λ p. unknown-spoiled p (omega (arith, ltb-false f.key unknown l)))))))
 
 -- ---- a further segment
@@ -197,8 +197,8 @@ again-more n gs g = ap not (all_append (λ x. leb (min n own_levels) x.key) gs (
 found-again : (m : Named) (f : Found) → (with_found m f).again ≡ m.again
 unfolding with_found with_unit with_dd with_once
 found-again m f =
-    by_test (eqb f.key ou-key) (λ e. rw e (by_test (ltb m.unit_count most) (λ a. rw a) (λ a. rw a)))
-    (λ e. by_test (eqb f.key dd-key) (λ d. rw (e, d) (by_test (ltb m.dd_count most) (λ a. rw a) (λ a. rw a)))
+    by_test (eqb f.key ou_key) (λ e. rw e (by_test (ltb m.unit_count most) (λ a. rw a) (λ a. rw a)))
+    (λ e. by_test (eqb f.key dd_key) (λ d. rw (e, d) (by_test (ltb m.dd_count most) (λ a. rw a) (λ a. rw a)))
     (λ d. by_test (ltb f.key unknown) (λ l. rw (e, d, l) (by_test (is_absent (place_at m f.key) && not (is_absent f.value)) (λ a. rw a) (λ a. rw a))) (λ l. rw (e, d, l))))
 
 pub held_more : (s : List ℕ) (n : ℕ) (m : Named) (gs : List Segment) (from : ℕ) (f : Found) → Held s n m gs → Segmented s from f → Held s n (take_found n m f) (gs ++ found_segment s f ∷ [])

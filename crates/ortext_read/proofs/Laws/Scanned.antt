@@ -1,7 +1,7 @@
 -- What the places held come to once all is read: what the segments name, added to a record; and a text read as far as a place.
 -- Assumes nothing.
 use mathlib.Core.Path.{◌≡◌, refl, sym, ap, ◌∙◌}
-use Prim.Native.Nat.{ℕ, ◌+◌, ◌≤◌, ◌<◌}
+use Prim.Native.Nat.{ℕ, ◌≤◌, ◌<◌}
 use native.Mathlib.Omega.{arith}
 use mathlib.Core.Bool.{Bool, true, false, not, ◌||◌, cond}
 use mathlib.Core.List.{List, [], ◌∷◌, ◌++◌, append-nil, map, reverse}
@@ -16,7 +16,7 @@ use Rattle.chars.proofs.Laws.Lists.{and_both, by_test, or_left, or_right, true_n
 use Rattle.oraddr.specs.Bounds.{ADMD, C, CN, G, GQ, I, O, PRMD, S, single_count}
 use Rattle.oraddr.specs.Add.{Outcome}
 use Rattle.oraddr.specs.declared.record.Record.{Record}
-use Rattle.ortext_segments.specs.Keys.{ou-key, pn_key, keys}
+use Rattle.ortext_segments.specs.Keys.{ou_key, pn_key, keys}
 use Rattle.ortext_name.specs.Name.{Name, read_name}
 use Rattle.ortext_segments.specs.Segments.{Segment, ahead, read_rest, read_segments}
 use Rattle.ortext_segments.specs.Scan.{Segmented, found_segment, span_text}
@@ -182,7 +182,7 @@ module _ (s : List ℕ) (m : Named) (h : AllSound s m) (gs : List Segment) (p : 
   parts r n o e =
       ap (λ d. add_dds d (add_units (held_units s m) o)) (sym p.dds)
       ∙ ap (λ u. add_dds (dds_of gs) (add_units (reverse u) o)) (sym p.units)
-      ∙ ap (λ x. add_dds (dds_of gs) (add_units (reverse (values_at ou-key gs)) x)) e
+      ∙ ap (λ x. add_dds (dds_of gs) (add_units (reverse (values_at ou_key gs)) x)) e
 
   module _ (r : Record) (e : is_beside m ≡ false) where
     abbrev singles : Outcome

@@ -15,7 +15,7 @@ use Rattle.chars.proofs.Laws.Lists.{all-member, by_test, or_left, or_right, true
 use Rattle.oraddr.specs.Attributes.{Attributes}
 use Rattle.oraddr.specs.Bounds.{ADMD, C, CN, GQ, O, PRMD, most, single_count}
 use Rattle.oraddr.specs.declared.record.Record.{Record}
-use Rattle.ortext_segments.specs.Keys.{dd-key, ou-key, pn_key}
+use Rattle.ortext_segments.specs.Keys.{dd_key, ou_key, pn_key}
 use Rattle.ortext_name.specs.Name.{Name}
 use Rattle.ortext_segments.specs.Segments.{Segment, unknown}
 use Rattle.ortext_read.specs.Apply.{add_all, add_named, dds_of, has_empty, has_repeated, has_unknown, name_of, named, pn_meets, refused, single_keys, value_at, values_at, with_name}
@@ -33,7 +33,7 @@ values-append k (g ∷ gs) hs = by_test (eqb g.key k) (λ e. rw (e, values-appen
 pub dds-append : (gs hs : List Segment) → dds_of (gs ++ hs) ≡ dds_of gs ++ dds_of hs
 unfolding dds_of
 dds-append [] hs = refl
-dds-append (g ∷ gs) hs = by_test (eqb g.key dd-key) (λ e. rw (e, dds-append gs hs)) (λ e. rw (e, dds-append gs hs))
+dds-append (g ∷ gs) hs = by_test (eqb g.key dd_key) (λ e. rw (e, dds-append gs hs)) (λ e. rw (e, dds-append gs hs))
 
 module _ (gs : List Segment) (g : Segment) where
   pub values-here : (k : ℕ) → g.key ≡ k → values_at k (gs ++ g ∷ []) ≡ values_at k gs ++ g.value ∷ []
@@ -44,13 +44,13 @@ module _ (gs : List Segment) (g : Segment) where
   unfolding values_at
   values_other k e = values-append k gs (g ∷ []) ∙ ap (λ b. values_at k gs ++ cond b (g.value ∷ []) []) (ne_eqb g.key k e) ∙ append-nil (values_at k gs)
 
-  pub dds-here : g.key ≡ dd-key → dds_of (gs ++ g ∷ []) ≡ dds_of gs ++ record { kind = g.kind; value = g.value } ∷ []
+  pub dds-here : g.key ≡ dd_key → dds_of (gs ++ g ∷ []) ≡ dds_of gs ++ record { kind = g.kind; value = g.value } ∷ []
   unfolding dds_of
-  dds-here e = dds-append gs (g ∷ []) ∙ ap (λ b. dds_of gs ++ cond b (record { kind = g.kind; value = g.value } ∷ []) []) (eq-eqb g.key dd-key e)
+  dds-here e = dds-append gs (g ∷ []) ∙ ap (λ b. dds_of gs ++ cond b (record { kind = g.kind; value = g.value } ∷ []) []) (eq-eqb g.key dd_key e)
 
-  pub dds_other : (g.key ≡ dd-key → ⊥) → dds_of (gs ++ g ∷ []) ≡ dds_of gs
+  pub dds_other : (g.key ≡ dd_key → ⊥) → dds_of (gs ++ g ∷ []) ≡ dds_of gs
   unfolding dds_of
-  dds_other e = dds-append gs (g ∷ []) ∙ ap (λ b. dds_of gs ++ cond b (record { kind = g.kind; value = g.value } ∷ []) []) (ne_eqb g.key dd-key e) ∙ append-nil (dds_of gs)
+  dds_other e = dds-append gs (g ∷ []) ∙ ap (λ b. dds_of gs ++ cond b (record { kind = g.kind; value = g.value } ∷ []) []) (ne_eqb g.key dd_key e) ∙ append-nil (dds_of gs)
 
 -- ---- what no further segment mends
 
@@ -67,11 +67,11 @@ unfolding named
 named_none gs e = ap (λ b. cond b none (with_name gs (name_of gs))) e
 
 -- the keys that stand once
-key-member : (k : ℕ) → k < unknown → (k ≡ ou-key → ⊥) → (k ≡ dd-key → ⊥) → member k (pn_key ∷ single_keys) ≡ true
+key-member : (k : ℕ) → k < unknown → (k ≡ ou_key → ⊥) → (k ≡ dd_key → ⊥) → member k (pn_key ∷ single_keys) ≡ true
 unfolding member
 key-member k h a b =
-    on_range_but (λ k. eqb k ou-key || eqb k dd-key) (λ k. member k (pn_key ∷ single_keys)) (λ _. true) 0 unknown tt k zero-le (omega arith)
-    (rw (ne_eqb k ou-key a, ne_eqb k dd-key b))
+    on_range_but (λ k. eqb k ou_key || eqb k dd_key) (λ k. member k (pn_key ∷ single_keys)) (λ _. true) 0 unknown tt k zero-le (omega arith)
+    (rw (ne_eqb k ou_key a, ne_eqb k dd_key b))
 
 single-member : (k : ℕ) → k < single_count → member k single_keys ≡ true
 unfolding member
@@ -81,7 +81,7 @@ pub unknown-none : (gs : List Segment) → non_empty (values_at unknown gs) ≡ 
 unfolding has_unknown
 unknown-none gs h = named_none gs (or_left (has_unknown gs || has_repeated gs || pn_meets gs) (has_empty gs) (or_left (has_unknown gs || has_repeated gs) (pn_meets gs) (or_left (has_unknown gs) (has_repeated gs) h)))
 
-pub repeated_none : (gs : List Segment) (k : ℕ) → k < unknown → (k ≡ ou-key → ⊥) → (k ≡ dd-key → ⊥) → 1 < length (values_at k gs) → named gs ≡ none
+pub repeated_none : (gs : List Segment) (k : ℕ) → k < unknown → (k ≡ ou_key → ⊥) → (k ≡ dd_key → ⊥) → 1 < length (values_at k gs) → named gs ≡ none
 unfolding has_repeated
 repeated_none gs k l a b h =
     let p : ℕ → Bool = λ j. leb (length (values_at j gs)) 1 in
@@ -106,7 +106,7 @@ attributes gs n =
       single =
           value_at C gs ∷ value_at ADMD gs ∷ value_at PRMD gs ∷ value_at O gs ∷ value_at CN gs
           ∷ n.surname ∷ n.given ∷ n.initials ∷ value_at GQ gs ∷ [];
-      units = reverse (values_at ou-key gs);
+      units = reverse (values_at ou_key gs);
       dds = dds_of gs;
     }
 
@@ -122,17 +122,17 @@ refused_all gs r f =
     by_name_lem none = refl
     by_name_lem (some n) = finish-refused (add_all (attributes gs n) r) (ne_eqb _ 0 (f n))
 
-pub many-units : (gs : List Segment) (r : Record) → most < length (values_at ou-key gs) → add_named r (named gs) ≡ refused
+pub many-units : (gs : List Segment) (r : Record) → most < length (values_at ou_key gs) → add_named r (named gs) ≡ refused
 unfolding add_all
 many-units gs r h =
-    refused_all gs r (λ n e. let u = (dds-few (dds_of gs) (add_units (reverse (values_at ou-key gs)) (add_singles 0 (attributes gs n).single (start r))) e).0 in
-    let k = length-reverse (values_at ou-key gs) in
-    omega (arith, (units-few (reverse (values_at ou-key gs)) (add_singles 0 (attributes gs n).single (start r)) u).1 (omega arith)))
+    refused_all gs r (λ n e. let u = (dds-few (dds_of gs) (add_units (reverse (values_at ou_key gs)) (add_singles 0 (attributes gs n).single (start r))) e).0 in
+    let k = length-reverse (values_at ou_key gs) in
+    omega (arith, (units-few (reverse (values_at ou_key gs)) (add_singles 0 (attributes gs n).single (start r)) u).1 (omega arith)))
 
 pub many-dds : (gs : List Segment) (r : Record) → most < length (dds_of gs) → add_named r (named gs) ≡ refused
 unfolding add_all
 many-dds gs r h =
-    refused_all gs r (λ n e. omega (arith, (dds-few (dds_of gs) (add_units (reverse (values_at ou-key gs)) (add_singles 0 (attributes gs n).single (start r))) e).1 (omega arith)))
+    refused_all gs r (λ n e. omega (arith, (dds-few (dds_of gs) (add_units (reverse (values_at ou_key gs)) (add_singles 0 (attributes gs n).single (start r))) e).1 (omega arith)))
 
 pub some_first : (x : List ℕ) (l : List (List ℕ)) → non_empty (x ∷ l) ≡ true
 unfolding non_empty

@@ -12,7 +12,7 @@ use Rattle.chars.specs.Lists.{all, bytes}
 use Rattle.chars.specs.Case.{agree, fold_case, same_byte, same_text}
 use Rattle.chars.proofs.Laws.Case.{agree_lengths_differ}
 use Rattle.chars.proofs.Laws.Lists.{and_left, and_right, true_not_false}
-use Rattle.ortext_segments.specs.Keys.{Keys, short-keys, key_count, key_number, keys}
+use Rattle.ortext_segments.specs.Keys.{Keys, short_keys, key_count, key_number, keys}
 
 -- a key of another length is not spelt
 pub differ : (k s : List ℕ) → eqb (length k) (length s) ≡ false → same_text k s ≡ false
@@ -37,9 +37,9 @@ pub two_next : (s : List ℕ) → length s ≡ 2 → key_number (drop 5 keys) s 
 unfolding keys bytes all
 two_next s h = pass (take 3 (drop 5 keys)) (drop 8 keys) s (rw h)
 
-pub two-last : (s : List ℕ) → length s ≡ 2 → key_number (drop short-keys keys) s ≡ 1
+pub two-last : (s : List ℕ) → length s ≡ 2 → key_number (drop short_keys keys) s ≡ 1
 unfolding key_number keys bytes all
-two-last s h = pass (drop short-keys keys) [] s (rw h)
+two-last s h = pass (drop short_keys keys) [] s (rw h)
 
 -- a text of neither one letter nor two: C, and the entries from O to PN, it is not
 module _ (s : List ℕ) (one : length s ≡ 1 → ⊥) (two : length s ≡ 2 → ⊥) where
@@ -53,9 +53,9 @@ module _ (s : List ℕ) (one : length s ≡ 1 → ⊥) (two : length s ≡ 2 →
   unfolding keys bytes all
   long_from = pass (take 1 keys) (drop 1 keys) s (rw not-one)
 
-  pub long_short : key_number (drop 3 keys) s ≡ 9 + key_number (drop short-keys keys) s
+  pub long_short : key_number (drop 3 keys) s ≡ 9 + key_number (drop short_keys keys) s
   unfolding keys bytes all
-  long_short = pass (take 9 (drop 3 keys)) (drop short-keys keys) s (rw (not-one, not-two))
+  long_short = pass (take 9 (drop 3 keys)) (drop short_keys keys) s (rw (not-one, not-two))
 
 -- a text of one byte
 pub one_byte : (s : List ℕ) → length s ≡ 1 → (get_or s 0 0 ∷ []) ≡ s

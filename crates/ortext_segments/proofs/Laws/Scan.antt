@@ -17,7 +17,7 @@ use Rattle.chars.specs.Lists.{all, bytes, member, non_empty}
 use Rattle.chars.specs.Class.{is_label_char, is_printable, is_letter, is_digit, between}
 use Rattle.chars.proofs.Laws.Lists.{all_drop, and_both, by_test, true_not_false}
 use Rattle.chars.proofs.Laws.Class.{label-below}
-use Rattle.ortext_segments.specs.Keys.{keys, key_count, key_number, dd-key, short-keys}
+use Rattle.ortext_segments.specs.Keys.{keys, key_count, key_number, dd_key, short_keys}
 use Rattle.ortext_segments.specs.Segments.{key_run, mark, plain_key, plain_text, read_rest, segment_of, symbols, unknown}
 use Rattle.ortext_segments.specs.Scan.{Segmenting, found_segment, further, kind_from, kind_text, kind_up_to, span_text, stop_run, value_from, value_up_to}
 use Rattle.ortext_segments.specs.declared.scan.Span.{Span}
@@ -119,7 +119,7 @@ module _ (s : List ℕ) (v : ℕ) where
   kind_nowhere h = rw (no_end h)
 
   pub kind_at : (e : ℕ) → further v (stop_run (drop v s)) ≡ some e
-      → kind_from s v ≡ cond (eqb (get_or s e 0) 61) (value_from s dd-key (record { start = v; len = e - v }) (e + 1)) Bad
+      → kind_from s v ≡ cond (eqb (get_or s e 0) 61) (value_from s dd_key (record { start = v; len = e - v }) (e + 1)) Bad
   unfolding kind_from kind_up_to
   kind_at e h =
       let p = end-place e h in
@@ -148,22 +148,22 @@ plain-found : (s : List ℕ) (n : ℕ) (v : List ℕ)
     → plain_key keys n v ≡ record { key = (plain_key keys n []).key; kind = kind_text s (plain_key keys n []).key (record { start = 0; len = 0 }); value = v }
 unfolding plain_key kind_text keys
 plain-found s n v =
-    by_test (eqb n dd-key)
+    by_test (eqb n dd_key)
     (λ e. rw e)
-    (λ e. by_test (ltb n short-keys)
+    (λ e. by_test (ltb n short_keys)
     (λ f. rw (e, f, e))
     (λ f. by_test (ltb n key_count)
-    (λ g. let h : n ≡ short-keys = omega (arith, ltb-true n key_count g, ltb-false n short-keys f) in rw h)
+    (λ g. let h : n ≡ short_keys = omega (arith, ltb-true n key_count g, ltb-false n short_keys f) in rw h)
     (λ g. rw (e, f, g))))
 
 -- a key's number in a segment
 plain-numbered : (n : ℕ) → (plain_key keys n []).key ≤ unknown
 unfolding plain_key keys
 plain-numbered n =
-    by_test (eqb n dd-key)
+    by_test (eqb n dd_key)
     (λ e. rw e (omega arith))
-    (λ e. by_test (ltb n short-keys)
-    (λ f. rw (e, f) (omega (arith, ltb-true n short-keys f)))
+    (λ e. by_test (ltb n short_keys)
+    (λ f. rw (e, f) (omega (arith, ltb-true n short_keys f)))
     (λ f. by_test (ltb n key_count) (λ g. rw (e, f, g) (omega arith)) (λ g. rw (e, f, g) (omega arith))))
 
 module _ (s : List ℕ) (from : ℕ) where
@@ -213,7 +213,7 @@ module _ (s : List ℕ) (from : ℕ) where
   -- a segment of a DD that is read already up to where its type starts
   kind-reads : bytes_only s ≡ true → (k : ℕ) (f : List ℕ) → stopless f ≡ true → non_empty f ≡ true
       → symbols (drop from s) ≡ prepend f (symbols (drop k s))
-      → ((m w : List ℕ) → segment_of keys (f ++ m) w ≡ some (record { key = dd-key; kind = plain_text m; value = plain_text w }))
+      → ((m w : List ℕ) → segment_of keys (f ++ m) w ≡ some (record { key = dd_key; kind = plain_text m; value = plain_text w }))
       → from < k
       → Segmenting s from (kind_from s k)
   unfolding kind_from kind_up_to Segmenting Stops read_rest all kind_text span_text
@@ -224,7 +224,7 @@ module _ (s : List ℕ) (from : ℕ) where
       go (some n) q =
           by_test (eqb (get_or s (k + n) 0) 61)
           (λ t. rw t
-          (value-reads b (k + n + 1) dd-key (record { start = k; len = n }) (f ++ q.marked)
+          (value-reads b (k + n + 1) dd_key (record { start = k; len = n }) (f ++ q.marked)
           (stopless_append f q.marked h q.free)
           (front_next f k n q 61 e (eqb-true (get_or s (k + n) 0) 61 t) refl)
           (λ w. g q.marked w ∙ rw (q.text (all_drop (λ x. ltb x mark) k s b), ne_eqb k 0 (λ r. omega arith)))
@@ -271,7 +271,7 @@ module _ (s : List ℕ) (from : ℕ) where
         (λ n g t w. segment_sides keys key g.marked w key-all (marked-run (drop e s) n g behind-run) ∙ rw z))
 
     -- a key, and behind it neither an equals sign nor, for a DD, a dot
-    pub key-bad : (get_or s e 0 ≡ 61 → ⊥) → (eqb (get_or s e 0) 46 && eqb (key_number keys key) dd-key) ≡ false → (e ≡ from → ⊥)
+    pub key-bad : (get_or s e 0 ≡ 61 → ⊥) → (eqb (get_or s e 0) 46 && eqb (key_number keys key) dd_key) ≡ false → (e ≡ from → ⊥)
         → read_rest keys (drop from s) ≡ none
     unfolding read_rest
     key-bad h d k =
@@ -288,7 +288,7 @@ module _ (s : List ℕ) (from : ℕ) where
         later zero t = absurd (h (sym at-end ∙ t))
         later (suc n) t = omega arith
 
-        dotted : (n : ℕ) (g : Stopped (drop e s) n) → (eqb (get_or g.marked 0 0) 46 && eqb (key_number keys key) dd-key) ≡ false
+        dotted : (n : ℕ) (g : Stopped (drop e s) n) → (eqb (get_or g.marked 0 0) 46 && eqb (key_number keys key) dd_key) ≡ false
         dotted n g =
             by_test (eqb (get_or s e 0) 46)
             (λ t. rw ((rw t at d), and-false))
@@ -306,10 +306,10 @@ module _ (s : List ℕ) (from : ℕ) where
         (omega arith) (omega arith) (omega arith) (plain-numbered (key_number keys key))
 
     -- DD, a dot and a type
-    pub key_typed : bytes_only s ≡ true → get_or s e 0 ≡ 46 → key_number keys key ≡ dd-key → (e ≡ from → ⊥) → Segmenting s from (kind_from s (e + 1))
+    pub key_typed : bytes_only s ≡ true → get_or s e 0 ≡ 46 → key_number keys key ≡ dd_key → (e ≡ from → ⊥) → Segmenting s from (kind_from s (e + 1))
     unfolding non_empty key_run all
     key_typed b t d k =
         kind-reads b (e + 1) (key ++ 46 ∷ []) (stopless_append key (46 ∷ []) key-free refl) (some-ends key 46)
         (key_next 46 t refl (byte_inside s e (omega arith)))
-        (λ m w. rw (append_snoc key 46 m) (segment_sides keys key (46 ∷ m) w key-all (run_none (46 ∷ m) dot) ∙ rw (key-some k, eq-eqb (key_number keys key) dd-key d)))
+        (λ m w. rw (append_snoc key 46 m) (segment_sides keys key (46 ∷ m) w key-all (run_none (46 ∷ m) dot) ∙ rw (key-some k, eq-eqb (key_number keys key) dd_key d)))
         (omega arith)

@@ -16,7 +16,7 @@ use Rattle.chars.specs.Class.{is_label_char, is_printable}
 use Rattle.chars.specs.Parts.{before, join, split}
 use Rattle.chars.proofs.Laws.Lists.{all_append, and_both, and_left, and_right, by_test, or_cases, true_not_false}
 use Rattle.chars.proofs.Laws.Parts.{clear, join-split, split-at_sep, split_one, split-some}
-use Rattle.ortext_segments.specs.Keys.{Keys, key_number, dd-key}
+use Rattle.ortext_segments.specs.Keys.{Keys, key_number, dd_key}
 use Rattle.ortext_segments.specs.Segments.{Segment, ahead, both_sides, closed, closed_marked, in_slashes, key_run, mark, onto, plain, plain_key, plain_text, read_marked, read_rest, read_segments, segment, segment_of, symbols, unquoted}
 use Rattle.ortext_segments.specs.Scan.{further, stop_run}
 use Rattle.ortext_segments.proofs.Laws.Keys.{dollar, key-append}
@@ -238,7 +238,7 @@ stop_quoted x y s e f (some n) h =
       first = λ p l z g. by_test (p (y + mark)) (λ t. absurd (omega (arith, l (y + mark) t))) (λ t. t);
     })
 
--- what stands up to the stop that `stopRun` finds
+-- what stands up to the stop that `stop_run` finds
 pub stops : (t : List ℕ) → Stops t (stop_run t)
 unfolding stop_run Stops symbols all non_empty
 stops [] = inr (record { marked = []; free = refl; reads = refl })
@@ -434,8 +434,8 @@ module _ (ks : Keys) where
       → segment_of ks (k ++ q) w ≡
       cond (non_empty k)
       (cond (non_empty q)
-      (cond (eqb (get_or q 0 0) 46 && eqb (key_number ks k) dd-key)
-      (some (record { key = dd-key; kind = plain_text (drop 1 q); value = plain_text w }))
+      (cond (eqb (get_or q 0 0) 46 && eqb (key_number ks k) dd_key)
+      (some (record { key = dd_key; kind = plain_text (drop 1 q); value = plain_text w }))
       none)
       (some (plain_key ks (key_number ks k) (plain_text w))))
       none

@@ -4,7 +4,7 @@ use mathlib.Core.Path.{◌≡◌, refl, sym, ap, ap₂, subst, ◌∙◌}
 use mathlib.Core.Bool.{Bool, true, not, cond, and-false, ◌&&◌}
 use mathlib.Core.List.{List, [], ◌∷◌, ◌++◌, map}
 use mathlib.Core.Option.{Option, some}
-use Prim.Native.Nat.{ℕ, zero, suc, ◌+◌, ◌-◌, ◌≤◌, ◌<◌, min}
+use Prim.Native.Nat.{ℕ, zero, suc, ◌-◌, ◌≤◌, ◌<◌, min}
 use native.Mathlib.Nat.{le_of_suc-le-suc, not-suc-le-zero}
 use native.Mathlib.Omega.{arith}
 use borrow.Author.Tests.{eq-eqb, leb-true, leb-false, ltb-true, not-true}
@@ -26,7 +26,7 @@ use Rattle.oraddr.proofs.Laws.Canonical.{canonical-parts, canonical-same, same-p
 use Rattle.oraddr.proofs.Laws.Made.{Made, made_empty}
 use Rattle.oraddr.proofs.Laws.Same.{attributes_trans, dd_refl}
 use Rattle.oraddr.proofs.Laws.View.{view-empty}
-use Rattle.ortext_segments.specs.Keys.{Keys, short-keys, key_number, keys}
+use Rattle.ortext_segments.specs.Keys.{Keys, short_keys, key_number, keys}
 use Rattle.ortext_name.specs.Name.{Name, is_short, name_text}
 use Rattle.ortext_segments.specs.Segments.{Segment}
 use Rattle.ortext_read.specs.Apply.{Reading, add_all, add_named, applied, finish, name_alone, or_name, read, read_as_name, read_local, read_text}
@@ -224,7 +224,7 @@ key_spells (k ∷ ks) s h =
 spelled-dd : (ks : Keys) (d : Dd) → same_dd (spelled_dd ks d) d ≡ true
 unfolding same_dd spelled_dd has_short short_key
 spelled-dd ks d =
-    let short = drop short-keys ks in
+    let short = drop short_keys ks in
     by_test (has_short ks d.kind)
     (λ e. rw e (and_both (key_spells short d.kind (ltb-true (key_number short d.kind) (length short) e)) (equal_refl d.value)))
     (λ e. rw e (dd_refl d))

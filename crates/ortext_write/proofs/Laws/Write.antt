@@ -21,11 +21,11 @@ use Rattle.chars.proofs.Laws.Class.{digit_printable, letter_printable}
 use Rattle.chars.proofs.Laws.Case.{equal-path}
 use Rattle.chars.proofs.Laws.Seq.{no_length, some-length}
 use Rattle.oraddr.specs.Attributes.{Attributes, Dd, single_of}
-use Rattle.oraddr.specs.Bounds.{ADMD, C, c_letters, CN, dd_type, dd-value, G, GQ, I, O, OU, PRMD, S, bound_of, is_country, is_space, is_value, level_count, most, own_levels, rule, single_count}
+use Rattle.oraddr.specs.Bounds.{ADMD, C, c_letters, CN, dd_type, dd_value, G, GQ, I, O, OU, PRMD, S, bound_of, is_country, is_space, is_value, level_count, most, own_levels, rule, single_count}
 use Rattle.oraddr.specs.Canonical.{all_kept, canonical, is_dd, is_unit, kept}
 use Rattle.oraddr.proofs.Laws.Canonical.{canonical-parts}
 use Rattle.oraddr.proofs.Laws.View.{value-length}
-use Rattle.ortext_segments.specs.Keys.{Keys, dd-key, ou-key, pn_key, short-keys, key_count, key_number, keys}
+use Rattle.ortext_segments.specs.Keys.{Keys, dd_key, ou_key, pn_key, short_keys, key_count, key_number, keys}
 use Rattle.ortext_name.specs.Name.{is_short, name_text}
 use Rattle.ortext_segments.specs.Segments.{Segment}
 use Rattle.ortext_write.specs.Write.{dd_most, dd_segment, has_short, joined, key_value, local_text, long_dd, longest_text, name_in, names_most, only_name, order, plain_segment, quoted, quoted_most, record_text, remaining, segment_text, segments_at, segments_in, segments_text, short_key, unit_most, writes_short}
@@ -55,25 +55,25 @@ pub length-key-value : (k v : List ℕ) → length (key_value k v) ≡ length k 
 unfolding key_value
 length-key-value k v = omega (arith, length-append k (61 ∷ quoted v))
 
-pub length-dd : length (get_or keys dd-key []) ≡ 2
+pub length-dd : length (get_or keys dd_key []) ≡ 2
 unfolding keys bytes
 length-dd = refl
 
 pub length_long : (t v : List ℕ) → length (long_dd keys t v) ≡ length (quoted t) + length (quoted v) + 5
 unfolding long_dd
-length_long t v = omega (arith, length-dd, length-key-value (get_or keys dd-key [] ++ 46 ∷ quoted t) v, length-append (get_or keys dd-key []) (46 ∷ quoted t))
+length_long t v = omega (arith, length-dd, length-key-value (get_or keys dd_key [] ++ 46 ∷ quoted t) v, length-append (get_or keys dd_key []) (46 ∷ quoted t))
 
 -- ---- segments
 
-pub short_test : (t : List ℕ) → has_short keys t ≡ same_text (get_or keys short-keys []) t
+pub short_test : (t : List ℕ) → has_short keys t ≡ same_text (get_or keys short_keys []) t
 unfolding has_short key_number keys
-short_test t = by_test (same_text (get_or keys short-keys []) t) (λ e. rw e) (λ e. rw e)
+short_test t = by_test (same_text (get_or keys short_keys []) t) (λ e. rw e) (λ e. rw e)
 
-short-key : (t : List ℕ) → has_short keys t ≡ true → short_key keys t ≡ get_or keys short-keys []
+short-key : (t : List ℕ) → has_short keys t ≡ true → short_key keys t ≡ get_or keys short_keys []
 unfolding short_key key_number keys
 short-key t h = rw (sym (short_test t) ∙ h)
 
-pub dd-short : (t v : List ℕ) → has_short keys t ≡ true → segment_text keys (dd_segment (record { kind = t; value = v })) ≡ key_value (get_or keys short-keys []) v
+pub dd-short : (t v : List ℕ) → has_short keys t ≡ true → segment_text keys (dd_segment (record { kind = t; value = v })) ≡ key_value (get_or keys short_keys []) v
 unfolding segment_text dd_segment
 dd-short t v h = rw (h, short-key t h)
 
@@ -81,16 +81,16 @@ pub dd_long : (t v : List ℕ) → has_short keys t ≡ false → segment_text k
 unfolding segment_text dd_segment
 dd_long t v h = rw h
 
-pub plain-text : (k : ℕ) (v : List ℕ) → (k ≡ dd-key → ⊥) → segment_text keys (plain_segment k v) ≡ key_value (get_or keys k []) v
+pub plain-text : (k : ℕ) (v : List ℕ) → (k ≡ dd_key → ⊥) → segment_text keys (plain_segment k v) ≡ key_value (get_or keys k []) v
 unfolding segment_text plain_segment
-plain-text k v h = rw (ne_eqb k dd-key h)
+plain-text k v h = rw (ne_eqb k dd_key h)
 
 -- what stands for one key, a unit and a DD as they are written
 abbrev pub key_text : Attributes → ℕ → List ℕ
 key_text a k = joined keys (segments_at a k)
 
 abbrev pub unit_text : List ℕ → List ℕ
-unit_text v = segment_text keys (plain_segment ou-key v)
+unit_text v = segment_text keys (plain_segment ou_key v)
 
 abbrev pub dd_text : Dd → List ℕ
 dd_text d = segment_text keys (dd_segment d)
@@ -116,12 +116,12 @@ joined_in ks a (k ∷ l) = joined-append ks (segments_at a k) (segments_in a l) 
 
 pub single-none : (ks : Keys) (a : Attributes) (k : ℕ) → k < single_count → single_of a k ≡ [] → joined ks (segments_at a k) ≡ []
 unfolding segments_at joined non_empty
-single-none ks a k h e = rw (ne_eqb k dd-key (λ q. omega arith), ne_eqb k ou-key (λ q. omega arith), e)
+single-none ks a k h e = rw (ne_eqb k dd_key (λ q. omega arith), ne_eqb k ou_key (λ q. omega arith), e)
 
 pub single-some : (a : Attributes) (k : ℕ) → k < single_count → 0 < length (single_of a k) → joined keys (segments_at a k) ≡ key_value (get_or keys k []) (single_of a k)
 unfolding segments_at joined
 single-some a k h e =
-    rw (ne_eqb k dd-key (λ q. omega arith), ne_eqb k ou-key (λ q. omega arith), some-length (single_of a k) e, append-nil)
+    rw (ne_eqb k dd_key (λ q. omega arith), ne_eqb k ou_key (λ q. omega arith), some-length (single_of a k) e, append-nil)
     (plain-text k (single_of a k) (λ q. omega arith))
 
 -- ---- without the first levels
@@ -168,13 +168,13 @@ module _ (n : ℕ) (a : Attributes) where
 
   pub segments_left : (k : ℕ) → min n own_levels ≤ k → k < single_count → segments_at (remaining n a) k ≡ segments_at a k
   unfolding segments_at
-  segments_left k h l = rw (ne_eqb k dd-key (λ q. omega arith), ne_eqb k ou-key (λ q. omega arith), single_left k h)
+  segments_left k h l = rw (ne_eqb k dd_key (λ q. omega arith), ne_eqb k ou_key (λ q. omega arith), single_left k h)
 
-  pub dds_left : (k : ℕ) → k ≡ dd-key → segments_at (remaining n a) k ≡ map dd_segment a.dds
+  pub dds_left : (k : ℕ) → k ≡ dd_key → segments_at (remaining n a) k ≡ map dd_segment a.dds
   unfolding segments_at remaining
   dds_left k e = rw e
 
-  pub units_left : (k : ℕ) → k ≡ ou-key → segments_at (remaining n a) k ≡ map (plain_segment ou-key) (reverse (drop (n - own_levels) a.units))
+  pub units_left : (k : ℕ) → k ≡ ou_key → segments_at (remaining n a) k ≡ map (plain_segment ou_key) (reverse (drop (n - own_levels) a.units))
   unfolding segments_at remaining
   units_left k e = rw e
 
@@ -359,13 +359,13 @@ country_quoted (x ∷ t) h =
     (λ e. quoted-plain is_digit refl refl v (and_right (eqb (length v) (bound_of C)) (all is_digit v) e))
 
 module _ (a : Attributes) where
-  dds-text : key_text a dd-key ≡ flat dd_text a.dds
+  dds-text : key_text a dd_key ≡ flat dd_text a.dds
   unfolding segments_at
   dds-text = joined-map keys dd_segment a.dds
 
-  units-text : key_text a ou-key ≡ flat unit_text (reverse a.units)
+  units-text : key_text a ou_key ≡ flat unit_text (reverse a.units)
   unfolding segments_at
-  units-text = joined-map keys (plain_segment ou-key) (reverse a.units)
+  units-text = joined-map keys (plain_segment ou_key) (reverse a.units)
 
   -- the segment of an attribute that a record has once, by a bound of its quoted value
   single-most : (k m : ℕ) → k < single_count → length (quoted (single_of a k)) ≤ m → length (key_text a k) ≤ length (get_or keys k []) + m + 2
@@ -385,15 +385,15 @@ flat-most f p m g (x ∷ l) h =
 unit_most_lem : (v : List ℕ) → is_unit v ≡ true → length (unit_text v) ≤ unit_most
 unfolding is_unit keys bytes
 unit_most_lem v h =
-    omega (arith, ap length (plain-text ou-key v (λ q. omega arith)), length-key-value (get_or keys ou-key []) v, quoted-length v, value-length OU v h)
+    omega (arith, ap length (plain-text ou_key v (λ q. omega arith)), length-key-value (get_or keys ou_key []) v, quoted-length v, value-length OU v h)
 
 dd-most : (d : Dd) → is_dd d ≡ true → length (dd_text d) ≤ dd_most
 unfolding is_dd keys bytes
 dd-most d h =
-    let t = value-length dd_type d.kind (and_left (is_value dd_type d.kind) (is_value dd-value d.value) h) in
-    let v = value-length dd-value d.value (and_right (is_value dd_type d.kind) (is_value dd-value d.value) h) in
+    let t = value-length dd_type d.kind (and_left (is_value dd_type d.kind) (is_value dd_value d.value) h) in
+    let v = value-length dd_value d.value (and_right (is_value dd_type d.kind) (is_value dd_value d.value) h) in
     by_test (has_short keys d.kind)
-    (λ e. omega (arith, ap length (dd-short d.kind d.value e), length-key-value (get_or keys short-keys []) d.value, quoted-length d.value))
+    (λ e. omega (arith, ap length (dd-short d.kind d.value e), length-key-value (get_or keys short_keys []) d.value, quoted-length d.value))
     (λ e. omega (arith, ap length (dd_long d.kind d.value e), length_long d.kind d.value, quoted-length d.kind, quoted-length d.value))
 
 all-reverse : {A : Type 0} (p : A → Bool) (l : List A) → all p l ≡ true → all p (reverse l) ≡ true
@@ -411,16 +411,16 @@ module _ (a : Attributes) (r : Ruled a) where
   unfolding keys bytes
   country_most = single-most a C 3 (lit< tt) (rw (country_quoted (single_of a C) (r.singles C)) (kept-within C (single_of a C) (r.singles C)))
 
-  units-most : length (key_text a ou-key) ≤ length a.units * unit_most
+  units-most : length (key_text a ou_key) ≤ length a.units * unit_most
   units-most =
       omega (arith, ap length (units-text a), flat-most unit_text is_unit unit_most unit_most_lem (reverse a.units) (all-reverse is_unit a.units r.units), length-reverse a.units)
 
-  dds-most : length (key_text a dd-key) ≤ most * dd_most
+  dds-most : length (key_text a dd_key) ≤ most * dd_most
   dds-most = omega (arith, ap length (dds-text a), flat-most dd_text is_dd dd_most dd-most a.dds r.dds, r.few-dds)
 
   -- the segments of the levels, and all others at their most
   segments-most : length (record_text keys a)
-      ≤ most * dd_most + names_most + length (key_text a ou-key) + length (key_text a O) + length (key_text a PRMD) + length (key_text a ADMD) + length (key_text a C) + 1
+      ≤ most * dd_most + names_most + length (key_text a ou_key) + length (key_text a O) + length (key_text a PRMD) + length (key_text a ADMD) + length (key_text a C) + 1
   unfolding keys bytes
   segments-most =
       let t = simp length-append at (ap length (joined_in keys a order)) in
@@ -563,21 +563,21 @@ key-value_class k v h g = rw (all_append is_text_char k (61 ∷ quoted v), h) (q
 long_class : (t v : List ℕ) → all is_printable t ≡ true → all is_printable v ≡ true → all is_text_char (long_dd keys t v) ≡ true
 unfolding long_dd all is_printable is_letter is_digit between member bytes
 long_class t v h g =
-    key-value_class (get_or keys dd-key [] ++ 46 ∷ quoted t) v
-    (rw (all_append is_text_char (get_or keys dd-key []) (46 ∷ quoted t), key_class dd-key (lit< tt)) (quoted_class t h))
+    key-value_class (get_or keys dd_key [] ++ 46 ∷ quoted t) v
+    (rw (all_append is_text_char (get_or keys dd_key []) (46 ∷ quoted t), key_class dd_key (lit< tt)) (quoted_class t h))
     g
 
 unit_class : (v : List ℕ) → is_unit v ≡ true → all is_text_char (unit_text v) ≡ true
 unfolding is_unit
-unit_class v h = rw (plain-text ou-key v (λ q. omega arith)) (key-value_class (get_or keys ou-key []) v (key_class ou-key (lit< tt)) (value_printable OU v h))
+unit_class v h = rw (plain-text ou_key v (λ q. omega arith)) (key-value_class (get_or keys ou_key []) v (key_class ou_key (lit< tt)) (value_printable OU v h))
 
 dd_class : (d : Dd) → is_dd d ≡ true → all is_text_char (dd_text d) ≡ true
 unfolding is_dd
 dd_class d h =
-    let t = value_printable dd_type d.kind (and_left (is_value dd_type d.kind) (is_value dd-value d.value) h) in
-    let v = value_printable dd-value d.value (and_right (is_value dd_type d.kind) (is_value dd-value d.value) h) in
+    let t = value_printable dd_type d.kind (and_left (is_value dd_type d.kind) (is_value dd_value d.value) h) in
+    let v = value_printable dd_value d.value (and_right (is_value dd_type d.kind) (is_value dd_value d.value) h) in
     by_test (has_short keys d.kind)
-    (λ e. rw (dd-short d.kind d.value e) (key-value_class (get_or keys short-keys []) d.value (key_class short-keys (lit< tt)) v))
+    (λ e. rw (dd-short d.kind d.value e) (key-value_class (get_or keys short_keys []) d.value (key_class short_keys (lit< tt)) v))
     (λ e. rw (dd_long d.kind d.value e) (long_class d.kind d.value t v))
 
 flat_class : {A : Type 0} (f : A → List ℕ) (p : A → Bool) (q : ℕ → Bool) → ((x : A) → p x ≡ true → all q (f x) ≡ true) → (l : List A) → all p l ≡ true → all q (flat f l) ≡ true
@@ -597,13 +597,13 @@ module _ (a : Attributes) (r : Ruled a) where
 
   at_class : (k : ℕ) → ltb k pn_key ≡ true → all is_text_char (key_text a k) ≡ true
   at_class k h =
-      by_test (eqb k dd-key)
-      (λ e. rw (eqb-true k dd-key e, dds-text a) (flat_class dd_text is_dd is_text_char dd_class a.dds r.dds))
-      (λ e. by_test (eqb k ou-key)
-      (λ f. rw (eqb-true k ou-key f, units-text a) (flat_class unit_text is_unit is_text_char unit_class (reverse a.units) (all-reverse is_unit a.units r.units)))
-      (λ f. own_class k (below k (ltb-true k pn_key h) (eqb-false k dd-key e) (eqb-false k ou-key f))))
+      by_test (eqb k dd_key)
+      (λ e. rw (eqb-true k dd_key e, dds-text a) (flat_class dd_text is_dd is_text_char dd_class a.dds r.dds))
+      (λ e. by_test (eqb k ou_key)
+      (λ f. rw (eqb-true k ou_key f, units-text a) (flat_class unit_text is_unit is_text_char unit_class (reverse a.units) (all-reverse is_unit a.units r.units)))
+      (λ f. own_class k (below k (ltb-true k pn_key h) (eqb-false k dd_key e) (eqb-false k ou_key f))))
     where
-      below : (k : ℕ) → k < pn_key → (k ≡ dd-key → ⊥) → (k ≡ ou-key → ⊥) → k < single_count
+      below : (k : ℕ) → k < pn_key → (k ≡ dd_key → ⊥) → (k ≡ ou_key → ⊥) → k < single_count
       below k h e f = omega arith
 
   record_class : all is_text_char (record_text keys a) ≡ true

@@ -20,8 +20,8 @@ use Rattle.chars.specs.Spaces.{is_text, well_spaced}
 use Rattle.chars.proofs.Laws.Case.{equal-path}
 use Rattle.chars.proofs.Laws.Class.{digit_printable, letter_printable}
 use Rattle.chars.proofs.Laws.Lists.{all_append, all-at, all_drop, all_map, all_weaken, first-at, and_both, and_left, and_right, and-three, by_test, or_cases, true_not_false}
-use Rattle.oraddr.specs.Bounds.{ADMD, C, c_letters, CN, dd_type, dd-value, G, GQ, I, O, OU, PRMD, S, bound_of, is_country, is_space, is_value, own_levels, rule, single_count}
-use Rattle.ortext_segments.specs.Keys.{Keys, dd-key, ou-key, pn_key, short-keys, is_key, key_number, keys}
+use Rattle.oraddr.specs.Bounds.{ADMD, C, c_letters, CN, dd_type, dd_value, G, GQ, I, O, OU, PRMD, S, bound_of, is_country, is_space, is_value, own_levels, rule, single_count}
+use Rattle.ortext_segments.specs.Keys.{Keys, dd_key, ou_key, pn_key, short_keys, is_key, key_number, keys}
 use Rattle.ortext_segments.specs.Segments.{Segment, unknown, ahead, key_run, plain_key, plain_text, read_rest, read_segments, segment_of, symbols}
 use Rattle.oraddr.specs.Attributes.{Attributes, Dd, single_of}
 use Rattle.oraddr.specs.declared.record.Record.{Record}
@@ -48,7 +48,7 @@ good_from ks k (s ∷ ss) = is_key s && eqb (key_number ks s) k && good_from ks 
 -- a table that the laws hold for
 unfoldable pub good_keys : Keys → Bool
 unfolding good_from
-good_keys ks = leb short-keys (length ks) && good_from ks 0 ks
+good_keys ks = leb short_keys (length ks) && good_from ks 0 ks
 
 pub keys-good : good_keys keys ≡ true
 unfolding good_keys good_from keys bytes is_key is_part key_number same_text agree same_byte fold_case all non_empty is_label_char is_letter is_digit between
@@ -71,21 +71,21 @@ good-at ks k (s ∷ ss) g (suc i) h =
 unfoldable pub spelled : Keys → Segment → Segment
 unfolding has_short short_key
 spelled ks g =
-    cond (eqb g.key dd-key && has_short ks g.kind)
-    (record { key = dd-key; kind = short_key ks g.kind; value = g.value })
+    cond (eqb g.key dd_key && has_short ks g.kind)
+    (record { key = dd_key; kind = short_key ks g.kind; value = g.value })
     g
 
 -- a segment that can be written: an attribute that a record has, with no type unless it is a DD, of printable string characters
 unfoldable pub writable : Segment → Bool
 unfolding all is_printable non_empty
 writable g =
-    (ltb g.key dd-key && not (non_empty g.kind) || eqb g.key dd-key && all is_printable g.kind)
+    (ltb g.key dd_key && not (non_empty g.kind) || eqb g.key dd_key && all is_printable g.kind)
     && all is_printable g.value
 
 value_printable : (g : Segment) → writable g ≡ true → all is_printable g.value ≡ true
 unfolding writable
 value_printable g h =
-    and_right (ltb g.key dd-key && not (non_empty g.kind) || eqb g.key dd-key && all is_printable g.kind) (all is_printable g.value) h
+    and_right (ltb g.key dd_key && not (non_empty g.kind) || eqb g.key dd_key && all is_printable g.kind) (all is_printable g.value) h
 
 -- What stands before the equals sign, as it is written and as it reads: with any value it makes the segment.
 record Left (ks : Keys) (g : Segment) : Type 0 where
@@ -97,19 +97,19 @@ record Left (ks : Keys) (g : Segment) : Type 0 where
   makes : (w : List ℕ) → plain_text w ≡ g.value → segment_of ks marked w ≡ some (spelled ks g)
 
 module _ (ks : Keys) (good : good_keys ks ≡ true) where
-  table-length : short-keys ≤ length ks
+  table-length : short_keys ≤ length ks
   unfolding good_keys
-  table-length = leb-true short-keys (length ks) (and_left (leb short-keys (length ks)) (good_from ks 0 ks) good)
+  table-length = leb-true short_keys (length ks) (and_left (leb short_keys (length ks)) (good_from ks 0 ks) good)
 
   -- each key is of label characters, is not empty, stops nowhere, and has its own number
   module _ (k : ℕ) (h : k < length ks) where
     key-part : is_key (get_or ks k []) ≡ true
     unfolding good_keys
-    key-part = (good-at ks 0 ks (and_right (leb short-keys (length ks)) (good_from ks 0 ks) good) k h).0
+    key-part = (good-at ks 0 ks (and_right (leb short_keys (length ks)) (good_from ks 0 ks) good) k h).0
 
     key_own : key_number ks (get_or ks k []) ≡ k
     unfolding good_keys
-    key_own = let e = (good-at ks 0 ks (and_right (leb short-keys (length ks)) (good_from ks 0 ks) good) k h).1 in omega (arith, e)
+    key_own = let e = (good-at ks 0 ks (and_right (leb short_keys (length ks)) (good_from ks 0 ks) good) k h).1 in omega (arith, e)
 
     key-some : non_empty (get_or ks k []) ≡ true
     unfolding is_key is_part
@@ -145,51 +145,51 @@ module _ (ks : Keys) (good : good_keys ks ≡ true) where
       }
 
   -- an attribute that is no DD
-  plain_left : (g : Segment) → ltb g.key dd-key ≡ true → non_empty g.kind ≡ false → Left ks g
+  plain_left : (g : Segment) → ltb g.key dd_key ≡ true → non_empty g.kind ≡ false → Left ks g
   unfolding segment_text spelled plain_key
   plain_left g h e =
-      let l : g.key < dd-key = ltb-true g.key dd-key h in
-      let n : eqb g.key dd-key ≡ false = ne_eqb g.key dd-key (λ r. omega arith) in
+      let l : g.key < dd_key = ltb-true g.key dd_key h in
+      let n : eqb g.key dd_key ≡ false = ne_eqb g.key dd_key (λ r. omega arith) in
       key_left g g.key (omega (arith, table-length)) (rw n)
-      (rw (n, lt-ltb g.key short-keys (omega arith)) (ap (λ (t : List ℕ). record { key = g.key; kind = t; value = g.value }) (sym (absent_is g.kind e))))
+      (rw (n, lt-ltb g.key short_keys (omega arith)) (ap (λ (t : List ℕ). record { key = g.key; kind = t; value = g.value }) (sym (absent_is g.kind e))))
 
   -- a DD that has a short key
-  short_left : (g : Segment) → eqb g.key dd-key ≡ true → has_short ks g.kind ≡ true → Left ks g
+  short_left : (g : Segment) → eqb g.key dd_key ≡ true → has_short ks g.kind ≡ true → Left ks g
   unfolding segment_text spelled plain_key has_short short_key
   short_left g h e =
-      let n = key_number (drop short-keys ks) g.kind in
-      let l : n < length (drop short-keys ks) = ltb-true n (length (drop short-keys ks)) e in
-      let b : short-keys + n < length ks = omega (arith, simp length-drop at l) in
-      key_left g (short-keys + n) b
-      (rw (h, e, get_or-drop short-keys ks n []))
-      (rw (h, e, get_or-drop short-keys ks n [], ne_eqb (short-keys + n) dd-key (λ r. omega arith), le-ltb (short-keys + n) short-keys (omega arith), lt-ltb (short-keys + n) (length ks) b))
+      let n = key_number (drop short_keys ks) g.kind in
+      let l : n < length (drop short_keys ks) = ltb-true n (length (drop short_keys ks)) e in
+      let b : short_keys + n < length ks = omega (arith, simp length-drop at l) in
+      key_left g (short_keys + n) b
+      (rw (h, e, get_or-drop short_keys ks n []))
+      (rw (h, e, get_or-drop short_keys ks n [], ne_eqb (short_keys + n) dd_key (λ r. omega arith), le-ltb (short_keys + n) short_keys (omega arith), lt-ltb (short_keys + n) (length ks) b))
 
   -- a DD that has none
-  long_left : (g : Segment) → eqb g.key dd-key ≡ true → has_short ks g.kind ≡ false → all is_printable g.kind ≡ true → Left ks g
+  long_left : (g : Segment) → eqb g.key dd_key ≡ true → has_short ks g.kind ≡ false → all is_printable g.kind ≡ true → Left ks g
   unfolding segment_text long_dd spelled all non_empty key_run
   long_left g h e p =
-      let d = get_or ks dd-key [] in
-      let l : dd-key < length ks = omega (arith, table-length) in
+      let d = get_or ks dd_key [] in
+      let l : dd_key < length ks = omega (arith, table-length) in
       let k = g.kind in
       record {
         text = d ++ 46 ∷ quoted k;
         marked = d ++ 46 ∷ marked_text k;
         written = rw (h, e);
         reads = λ s.
-            rw (append_assoc d (46 ∷ quoted k) s, symbols-key d (46 ∷ quoted k ++ s) (key-label dd-key l), symbols-plain 46 (quoted k ++ s) refl, quoted-reads k s p, prepend_prepend (46 ∷ []) (marked_text k) (symbols s))
+            rw (append_assoc d (46 ∷ quoted k) s, symbols-key d (46 ∷ quoted k ++ s) (key-label dd_key l), symbols-plain 46 (quoted k ++ s) refl, quoted-reads k s p, prepend_prepend (46 ∷ []) (marked_text k) (symbols s))
             (prepend_prepend d (46 ∷ marked_text k) (symbols s));
-        free = stopless_append d (46 ∷ marked_text k) (key-free dd-key l) (marked_stopless k);
+        free = stopless_append d (46 ∷ marked_text k) (key-free dd_key l) (marked_stopless k);
         makes = λ w r.
-            segment_sides ks d (46 ∷ marked_text k) w (key-label dd-key l) (run_none (46 ∷ marked_text k) dot)
-            ∙ rw (key-some dd-key l, key_own dd-key l, marked-plain k p, r, h, e) (ap (λ (n : ℕ). some (record { key = n; kind = k; value = g.value })) (sym (eqb-true g.key dd-key h)));
+            segment_sides ks d (46 ∷ marked_text k) w (key-label dd_key l) (run_none (46 ∷ marked_text k) dot)
+            ∙ rw (key-some dd_key l, key_own dd_key l, marked-plain k p, r, h, e) (ap (λ (n : ℕ). some (record { key = n; kind = k; value = g.value })) (sym (eqb-true g.key dd_key h)));
       }
 
   left : (g : Segment) → writable g ≡ true → Left ks g
   unfolding writable
   left g h =
-      let a = ltb g.key dd-key in
+      let a = ltb g.key dd_key in
       let b = not (non_empty g.kind) in
-      let c = eqb g.key dd-key in
+      let c = eqb g.key dd_key in
       let d = all is_printable g.kind in
       or_cases (a && b) (c && d) (and_left (a && b || c && d) (all is_printable g.value) h)
       (λ e. plain_left g (and_left a b e) (not-true (non_empty g.kind) (and_right a b e)))
@@ -277,16 +277,16 @@ one v = cond (non_empty v) (v ∷ []) []
 -- the values that are written with the key k, which is not DD's
 unfoldable own : Attributes → ℕ → List (List ℕ)
 unfolding one single_of
-own a k = cond (eqb k ou-key) (reverse a.units) (one (single_of a k))
+own a k = cond (eqb k ou_key) (reverse a.units) (one (single_of a k))
 
-at_plain : (a : Attributes) (k : ℕ) → eqb k dd-key ≡ false → segments_at a k ≡ map (plain_segment k) (own a k)
+at_plain : (a : Attributes) (k : ℕ) → eqb k dd_key ≡ false → segments_at a k ≡ map (plain_segment k) (own a k)
 unfolding segments_at own one
 at_plain a k e =
-    by_test (eqb k ou-key)
-    (λ f. rw (e, f, eqb-true k ou-key f))
+    by_test (eqb k ou_key)
+    (λ f. rw (e, f, eqb-true k ou_key f))
     (λ f. by_test (non_empty (single_of a k)) (λ h. rw (e, f, h)) (λ h. rw (e, f, h)))
 
-at-dds : (a : Attributes) (k : ℕ) → eqb k dd-key ≡ true → segments_at a k ≡ map dd_segment a.dds
+at-dds : (a : Attributes) (k : ℕ) → eqb k dd_key ≡ true → segments_at a k ≡ map dd_segment a.dds
 unfolding segments_at
 at-dds a k e = rw e
 
@@ -303,7 +303,7 @@ all_replicate p (suc n) x h = and_both h (all_replicate p n x h)
 
 -- what a segment comes back as, over the attributes
 module _ (ks : Keys) where
-  spelled-plain : (k : ℕ) → eqb k dd-key ≡ false → (vs : List (List ℕ)) → map (spelled ks) (map (plain_segment k) vs) ≡ map (plain_segment k) vs
+  spelled-plain : (k : ℕ) → eqb k dd_key ≡ false → (vs : List (List ℕ)) → map (spelled ks) (map (plain_segment k) vs) ≡ map (plain_segment k) vs
   unfolding spelled plain_segment
   spelled-plain k e [] = refl
   spelled-plain k e (v ∷ vs) = rw (e, spelled-plain k e vs)
@@ -316,7 +316,7 @@ module _ (ks : Keys) where
   spelled_at : (a : Attributes) (k : ℕ) → map (spelled ks) (segments_at a k) ≡ segments_at (spelled_attributes ks a) k
   unfolding spelled_attributes own single_of
   spelled_at a k =
-      by_test (eqb k dd-key)
+      by_test (eqb k dd_key)
       (λ e. rw (at-dds a k e, at-dds (spelled_attributes ks a) k e) (spelled-dds a.dds))
       (λ e. rw (at_plain a k e, at_plain (spelled_attributes ks a) k e) (spelled-plain k e (own a k)))
 
@@ -333,12 +333,12 @@ values-plain k j [] = by_test (eqb j k) (λ e. rw e) (λ e. rw e)
 values-plain k j (v ∷ vs) =
     by_test (eqb j k) (λ e. rw (e, values-plain k j vs, e)) (λ e. rw (e, values-plain k j vs, e))
 
-values-dds : (k : ℕ) → eqb dd-key k ≡ false → (ds : List Dd) → values_at k (map dd_segment ds) ≡ []
+values-dds : (k : ℕ) → eqb dd_key k ≡ false → (ds : List Dd) → values_at k (map dd_segment ds) ≡ []
 unfolding values_at dd_segment
 values-dds k e [] = refl
 values-dds k e (d ∷ ds) = rw e (values-dds k e ds)
 
-dds-plain : (j : ℕ) → eqb j dd-key ≡ false → (vs : List (List ℕ)) → dds_of (map (plain_segment j) vs) ≡ []
+dds-plain : (j : ℕ) → eqb j dd_key ≡ false → (vs : List (List ℕ)) → dds_of (map (plain_segment j) vs) ≡ []
 unfolding dds_of plain_segment
 dds-plain j e [] = refl
 dds-plain j e (v ∷ vs) = rw e (dds-plain j e vs)
@@ -367,8 +367,8 @@ some-dds (g ∷ gs) h = refl
 at-keys : (a : Attributes) (j : ℕ) (p : ℕ → Bool) → p j ≡ true → all (λ g. p g.key) (segments_at a j) ≡ true
 unfolding plain_segment dd_segment
 at-keys a j p h =
-    by_test (eqb j dd-key)
-    (λ e. rw (at-dds a j e) (all_map (λ g. p g.key) dd_segment a.dds ∙ all_same a.dds (ap p (sym (eqb-true j dd-key e)) ∙ h)))
+    by_test (eqb j dd_key)
+    (λ e. rw (at-dds a j e) (all_map (λ g. p g.key) dd_segment a.dds ∙ all_same a.dds (ap p (sym (eqb-true j dd_key e)) ∙ h)))
     (λ e. rw (at_plain a j e) (all_map (λ g. p g.key) (plain_segment j) (own a j) ∙ all_same (own a j) h))
 
 -- how often a key stands in an order
@@ -379,16 +379,16 @@ times k (j ∷ js) = cond (eqb j k) (suc (times k js)) (times k js)
 -- a key of an attribute that a record has once: it stands once in the order of writing, and is no DD's and no unit's
 unfoldable is_single : ℕ → Bool
 unfolding times
-is_single k = eqb (times k order) 1 && not (eqb dd-key k) && not (eqb k ou-key)
+is_single k = eqb (times k order) 1 && not (eqb dd_key k) && not (eqb k ou_key)
 
 module _ (a : Attributes) where
-  values-at : (k : ℕ) → eqb dd-key k ≡ false → (j : ℕ) → values_at k (segments_at a j) ≡ cond (eqb j k) (own a j) []
+  values-at : (k : ℕ) → eqb dd_key k ≡ false → (j : ℕ) → values_at k (segments_at a j) ≡ cond (eqb j k) (own a j) []
   values-at k e j =
-      by_test (eqb j dd-key)
-      (λ f. rw (at-dds a j f, values-dds k e a.dds, eqb-true j dd-key f, e))
+      by_test (eqb j dd_key)
+      (λ f. rw (at-dds a j f, values-dds k e a.dds, eqb-true j dd_key f, e))
       (λ f. rw (at_plain a j f) (values-plain k j (own a j)))
 
-  values-none : (k : ℕ) → eqb dd-key k ≡ false → (js : List ℕ) → times k js ≡ 0 → values_at k (segments_in a js) ≡ []
+  values-none : (k : ℕ) → eqb dd_key k ≡ false → (js : List ℕ) → times k js ≡ 0 → values_at k (segments_in a js) ≡ []
   unfolding segments_in values_at times
   values-none k e [] t = refl
   values-none k e (j ∷ js) t =
@@ -396,7 +396,7 @@ module _ (a : Attributes) where
       (λ f. absurd (omega (arith, rw f at t)))
       (λ f. rw (values-append k (segments_at a j) (segments_in a js), values-at k e j, f) (values-none k e js (rw f at t)))
 
-  values-once : (k : ℕ) → eqb dd-key k ≡ false → (js : List ℕ) → times k js ≡ 1 → values_at k (segments_in a js) ≡ own a k
+  values-once : (k : ℕ) → eqb dd_key k ≡ false → (js : List ℕ) → times k js ≡ 1 → values_at k (segments_in a js) ≡ own a k
   unfolding segments_in values_at times
   values-once k e [] t = absurd (omega arith)
   values-once k e (j ∷ js) t =
@@ -405,29 +405,29 @@ module _ (a : Attributes) where
       rw (values-append k (segments_at a j) (segments_in a js), values-at k e j, f, values-none k e js z, eqb-true j k f) (append-nil (own a k)))
       (λ f. rw (values-append k (segments_at a j) (segments_in a js), values-at k e j, f) (values-once k e js (rw f at t)))
 
-  dds-none : (js : List ℕ) → all (λ j. not (eqb j dd-key)) js ≡ true → dds_of (segments_in a js) ≡ []
+  dds-none : (js : List ℕ) → all (λ j. not (eqb j dd_key)) js ≡ true → dds_of (segments_in a js) ≡ []
   unfolding segments_in dds_of all
   dds-none [] h = refl
   dds-none (j ∷ js) h =
-      let e = not-true (eqb j dd-key) (and_left (not (eqb j dd-key)) (all (λ j. not (eqb j dd-key)) js) h) in
+      let e = not-true (eqb j dd_key) (and_left (not (eqb j dd_key)) (all (λ j. not (eqb j dd_key)) js) h) in
       rw (dds-append (segments_at a j) (segments_in a js), at_plain a j e, dds-plain j e (own a j))
-      (dds-none js (and_right (not (eqb j dd-key)) (all (λ j. not (eqb j dd-key)) js) h))
+      (dds-none js (and_right (not (eqb j dd_key)) (all (λ j. not (eqb j dd_key)) js) h))
 
   dds_in : dds_of (segments_in a order) ≡ a.dds
   unfolding segments_in all
   dds_in =
-      let js = CN ∷ G ∷ I ∷ S ∷ GQ ∷ ou-key ∷ O ∷ PRMD ∷ ADMD ∷ C ∷ [] in
-      dds-append (segments_at a dd-key) (segments_in a js) ∙ rw (dds-none js refl, at-dds a dd-key refl, dds-dds a.dds) (append-nil a.dds)
+      let js = CN ∷ G ∷ I ∷ S ∷ GQ ∷ ou_key ∷ O ∷ PRMD ∷ ADMD ∷ C ∷ [] in
+      dds-append (segments_at a dd_key) (segments_in a js) ∙ rw (dds-none js refl, at-dds a dd_key refl, dds-dds a.dds) (append-nil a.dds)
 
   -- each attribute that a record has once
   single_in : (k : ℕ) → is_single k ≡ true → values_at k (segments_in a order) ≡ one (single_of a k)
   unfolding is_single own
   single_in k h =
       let p = eqb (times k order) 1 in
-      let q = not (eqb dd-key k) in
-      let r = not (eqb k ou-key) in
+      let q = not (eqb dd_key k) in
+      let r = not (eqb k ou_key) in
       let e = and-three p q r h in
-      values-once k (not-true (eqb dd-key k) e.1) order (eqb-true (times k order) 1 e.0) ∙ rw (not-true (eqb k ou-key) e.2)
+      values-once k (not-true (eqb dd_key k) e.1) order (eqb-true (times k order) 1 e.0) ∙ rw (not-true (eqb k ou_key) e.2)
 
   single-value : (k : ℕ) → is_single k ≡ true → value_at k (segments_in a order) ≡ single_of a k
   unfolding value_at
@@ -455,7 +455,7 @@ module _ (a : Attributes) where
         single-value G refl,
         single-value I refl,
         single-value GQ refl,
-        values-once ou-key refl order refl,
+        values-once ou_key refl order refl,
         reverse-reverse a.units,
         dds_in,
       )
@@ -518,12 +518,12 @@ canonical_printable a h =
       dds =
           all_weaken is_dd (λ d. all is_printable d.kind && all is_printable d.value)
           (λ d e. and_both
-          (value-text dd_type d.kind (and_left (is_value dd_type d.kind) (is_value dd-value d.value) e))
-          (value-text dd-value d.value (and_right (is_value dd_type d.kind) (is_value dd-value d.value) e)))
+          (value-text dd_type d.kind (and_left (is_value dd_type d.kind) (is_value dd_value d.value) e))
+          (value-text dd_value d.value (and_right (is_value dd_type d.kind) (is_value dd_value d.value) e)))
           a.dds p.dds;
     }
 
-writable_plain : (j : ℕ) → ltb j dd-key ≡ true → (vs : List (List ℕ)) → all writable (map (plain_segment j) vs) ≡ all (all is_printable) vs
+writable_plain : (j : ℕ) → ltb j dd_key ≡ true → (vs : List (List ℕ)) → all writable (map (plain_segment j) vs) ≡ all (all is_printable) vs
 unfolding all writable plain_segment non_empty
 writable_plain j h [] = refl
 writable_plain j h (v ∷ vs) = rw (h, writable_plain j h vs)
@@ -548,25 +548,25 @@ all_any p s i d h k =
 own_printable : (a : Attributes) → Printable a → (j : ℕ) → all (all is_printable) (own a j) ≡ true
 unfolding own one single_of all
 own_printable a p j =
-    by_test (eqb j ou-key)
+    by_test (eqb j ou_key)
     (λ e. rw e (all_reversed (all is_printable) a.units [] p.units refl))
     (λ e. by_test (non_empty (get_or a.single j []))
     (λ f. rw (e, f) (and_both (all_any (all is_printable) a.single j [] p.singles refl) refl))
     (λ f. rw (e, f)))
 
-pub writable_in : (a : Attributes) → Printable a → (js : List ℕ) → all (λ j. leb j dd-key) js ≡ true → all writable (segments_in a js) ≡ true
+pub writable_in : (a : Attributes) → Printable a → (js : List ℕ) → all (λ j. leb j dd_key) js ≡ true → all writable (segments_in a js) ≡ true
 unfolding segments_in all
 writable_in a p [] h = refl
 writable_in a p (j ∷ js) h =
     all_append writable (segments_at a j) (segments_in a js)
-    ∙ and_both here (writable_in a p js (and_right (leb j dd-key) (all (λ j. leb j dd-key) js) h))
+    ∙ and_both here (writable_in a p js (and_right (leb j dd_key) (all (λ j. leb j dd_key) js) h))
   where
     here : all writable (segments_at a j) ≡ true
     here =
-        by_test (eqb j dd-key)
+        by_test (eqb j dd_key)
         (λ e. rw (at-dds a j e) (writable_dds a.dds ∙ p.dds))
-        (λ e. let l = leb-true j dd-key (and_left (leb j dd-key) (all (λ j. leb j dd-key) js) h) in
-        let m : ltb j dd-key ≡ true = lt-ltb j dd-key (omega (arith, eqb-false j dd-key e)) in
+        (λ e. let l = leb-true j dd_key (and_left (leb j dd_key) (all (λ j. leb j dd_key) js) h) in
+        let m : ltb j dd_key ≡ true = lt-ltb j dd_key (omega (arith, eqb-false j dd_key e)) in
         rw (at_plain a j e) (writable_plain j m (own a j) ∙ own_printable a p j))
 
 -- ---- what is left of a record
@@ -590,7 +590,7 @@ module _ (n : ℕ) (a : Attributes) where
   keys-at j =
       by_test (ltb j (min n own_levels))
       (λ e. let l = ltb-true j (min n own_levels) e in
-      rw (at_plain (remaining n a) j (ne_eqb j dd-key (λ r. omega arith)), ne_eqb j ou-key (λ r. omega arith), single_out n a j l))
+      rw (at_plain (remaining n a) j (ne_eqb j dd_key (λ r. omega arith)), ne_eqb j ou_key (λ r. omega arith), single_out n a j l))
       (λ e. at-keys (remaining n a) j (leb (min n own_levels)) (le-leb (min n own_levels) j (ltb-false j (min n own_levels) e)))
 
   keys_in : (js : List ℕ) → all (λ g. leb (min n own_levels) g.key) (segments_in (remaining n a) js) ≡ true

@@ -19,9 +19,9 @@ use Rattle.chars.proofs.Laws.Parts.{clear, parted-all, split-at_sep, split_head}
 use Rattle.mailaddr.specs.Domain.{is_domain}
 use Rattle.mailaddr.proofs.Laws.Domain.{domain-atoms}
 use Rattle.rowlist.specs.declared.RowEntry.{RowEntry}
-use Rattle.table.specs.Table.{Row, Token}
+use Rattle.table.specs.Table.{Token}
 use Rattle.table.specs.Lines.{has_tag, is_path, is_row, longest_gateway_domain, row_of}
-use Rattle.table.specs.Rows.{between, fields_at, row_at}
+use Rattle.table.specs.Rows.{fields_at, row_at}
 use Rattle.table.specs.declared.line as line
 use Rattle.table.proofs.Laws.Fields.{between-length, fields_in, row_inside}
 use Rattle.rowlist_load.specs.Listed.{EntryFound, domain_part, entry_line, is_entry, is_spelled, path_part}

@@ -1,4 +1,4 @@
--- A list is malformed at the number of its first bad entry, and at no other number, and is well_formed_lem where there is an entry and none is
+-- A list is malformed at the number of its first bad entry, and at no other number, and is well-formed where there is an entry and none is
 -- bad, and nowhere else; with no entry it is malformed at 1.
 -- Assumes nothing.
 use mathlib.Core.Path.{◌≡◌, refl, sym, ap, ◌∙◌}

@@ -397,7 +397,7 @@ module _ (t : Table) (r : Row) (d : List ℕ) where
       let n : ℕ = length (parts_of r.domain) in
       map-drop fold_text n (parts_of d) ∙ ap (drop n) e ∙ drop_at (domain_row r).val z n (length-map (parts_of r.domain) fold_text)
 
--- The parts left of the domain's, which `left-drop` of the table's laws says by the text (`leftParts`), fill the levels behind the path.
+-- The parts left of the domain's, which `left_drop` of the table's laws says by the text (`left_parts`), fill the levels behind the path.
 module _ (t : Table) (f : Formed t) (r : Row) (m : Memᴰ r t.to_domain) (d : List ℕ) (g : is_domain d ≡ true)
     (left : List Token) (cut : drop (length (parts_of r.domain)) (parts_of d) ≡ left) where
   left_there : all non_empty left ≡ true

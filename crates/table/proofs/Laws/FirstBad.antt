@@ -1,4 +1,4 @@
--- A text of the right size is malformed at the number of its first bad line, and at no other number, and is well_formed_lem where no line is
+-- A text of the right size is malformed at the number of its first bad line, and at no other number, and is well-formed where no line is
 -- bad, and nowhere else; a larger one is malformed at 0.
 -- Assumes nothing.
 use mathlib.Core.Path.{◌≡◌, refl, sym, ap, ◌∙◌}
@@ -170,7 +170,7 @@ bad-first s n l f =
     ∙ first-bad-lines f.before f.line f.rest f.none f.bad
     ∙ ap malformed (sym f.number)
 
--- a text is well_formed_lem where it is of the right size and no line is bad
+-- a text is well-formed where it is of the right size and no line is bad
 pub well_formed_lem : (s : List ℕ) (t : Table) → loaded_from s ≡ well_formed t → (length s ≤ longest_table) × NoneBad (table_lines s)
 well_formed_lem s t h =
     by_test (ltb longest_table (length s))

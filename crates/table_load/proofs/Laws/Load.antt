@@ -10,9 +10,9 @@ use borrow.Author.Tests.{le-leb, lt-leb}
 use lib.ListN.{length, drop}
 use Rattle.chars.specs.Parts.{run, split}
 use Rattle.chars.proofs.Laws.Lists.{and_left, or_left, or_right}
-use Rattle.table.specs.Table.{Row, Table, Token}
+use Rattle.table.specs.Table.{Table, Token}
 use Rattle.table.specs.Lines.{Line, TableOutcome, bad_row, has_tag, is_new_row, is_row, longest_row_domain, malformed, most_rows, read_rows, row_of, with_row}
-use Rattle.table.specs.Rows.{RowFound, RowInside, bare_table, between, line_at, lines_from, row_at, rows_at, rows_from, rows_size, table_at}
+use Rattle.table.specs.Rows.{RowInside, bare_table, line_at, lines_from, row_at, rows_at, rows_from, rows_size, table_at}
 use Rattle.table.specs.declared.line as line
 use Rattle.table.specs.declared.load as loaded
 use Rattle.table.specs.declared.load.TableRead.TheVariants.{Table as TableFound, Malformed}

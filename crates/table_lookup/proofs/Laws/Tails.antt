@@ -19,7 +19,6 @@ use Rattle.chars.proofs.Laws.Parts.{clear, join-split, split-clear, split-some}
 use Rattle.mailaddr.specs.Domain.{domain_of, in_front, parts_of}
 use Rattle.mailaddr.proofs.Laws.Domain.{domain-fold, domain-front, domain-parts, parts-fold, parts-front, parts-some}
 use Rattle.table.specs.Table.{Token}
-use Rattle.table.specs.Rows.{between}
 use Rattle.table_lookup.specs.Begins.{begins_by}
 use Rattle.table_lookup.specs.Lookup.{begins}
 

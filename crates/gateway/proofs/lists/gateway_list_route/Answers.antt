@@ -1,0 +1,9 @@
+-- `gateway::lists::gateway_list_route` meets its contract: the rows are laid out as numbers, and the function over those is called.
+-- Assumes nothing.
+use Rattle.gateway_list.proofs.Laid.{listed_laid}
+use Rattle.gateway.proofs.lists.gateway_list_route.Goals as goal
+
+pub returns : goal.returns
+returns c =
+    rw (listed_laid c.args.text.now c.args.rows.now c.spread-n.result c.spread-n.new.numbers c.spread-n.type_inv c.spread-n.ensures)
+    at c.packed_route.ensures

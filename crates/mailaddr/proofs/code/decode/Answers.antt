@@ -1,0 +1,39 @@
+-- `mailaddr::code::decode` meets its contract. The loop's invariant: what is written is what the text decodes to up to place i, and
+-- is no longer than that.
+-- Assumes nothing.
+use mathlib.Core.Path.{refl, ◌∙◌}
+use native.Mathlib.Omega.{arith}
+use lib.ListN.{length-set}
+use Rattle.mailaddr.specs.Answers.{Decoding}
+use Rattle.mailaddr.proofs.Laws.Code.{decoding-end, decoding-none, decoding-start, decoding_step}
+use Rattle.mailaddr.proofs.code.decode.Goals as goal
+
+pub loop-i-init : goal.loop-i-init
+loop-i-init c =
+    let a = c.args in
+    (omega arith, omega arith, refl, decoding-start a.s.now a.dst.now)
+
+pub shape_of-dst-then-len-eq0 : goal.shape_of-dst-then-len-eq0
+shape_of-dst-then-len-eq0 c = c.loop-i.invariant.2
+
+pub returns-then-len-eq0 : goal.returns-then-len-eq0
+unfolding Decoding
+returns-then-len-eq0 c = decoding-none c.loop-i.invariant.3 c.group_at-g.ensures c.if-len-eq0.true
+
+pub overflow_add-i : goal.overflow_add-i
+overflow_add-i c = omega (arith, c.group_at-g.ensures.fits)
+
+pub loop-i-smaller : goal.loop-i-smaller
+loop-i-smaller c = omega (arith, c.group_at-g.ensures.fits)
+
+pub loop-i-preserved : goal.loop-i-preserved
+loop-i-preserved c =
+    let l = c.loop-i in
+    (omega arith, omega arith, length-set l.dst l.n _ ∙ l.invariant.2, decoding_step l.invariant.3 c.group_at-g.ensures c.if-len-eq0.false)
+
+pub shape_of-dst : goal.shape_of-dst
+shape_of-dst c = c.loop-i.invariant.2
+
+pub returns : goal.returns
+unfolding Decoding
+returns c = decoding-end c.loop-i.invariant.3 (omega arith) (omega arith)

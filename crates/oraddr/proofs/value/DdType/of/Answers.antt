@@ -1,0 +1,13 @@
+-- `oraddr::value::DdType::of` meets its contract: what `put` writes into a room of zeros is the struct of the text.
+-- Assumes nothing.
+use borrow.Author.Rules.{rules}
+use Rattle.oraddr.specs.Bounds.{bound_of, dd_type}
+use Rattle.oraddr.specs.View.{kind_of}
+use Rattle.oraddr.proofs.Laws.Text.{length_of, made_of}
+use Rattle.oraddr.proofs.value.DdType.of.Goals as goal
+
+pub returns : goal.returns
+unfolding kind_of
+returns c =
+    let wrote = c.put-len.ensures in
+    rw (length_of wrote, made_of (bound_of dd_type) c.requires wrote)
