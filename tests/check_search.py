@@ -1,7 +1,7 @@
 #!/usr/bin/env python3
 """Tries the table check against a plain search: on many small random tables the answer of the compiled program must be that of a search
 over small sets of level values, and each of some wrong checks must be caught. Run it from the repository's root after
-`rt check check_cases`:
+`tools/build check_cases`:
 
     python3 tests/check_search.py [TABLES [SEED]]
 

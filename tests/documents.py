@@ -1,7 +1,7 @@
 #!/usr/bin/env python3
 """Every file, function and definition that the documents name exists, where they say that it stands.
 
-Read are README.md and docs/*.md but docs/CHANGES.md, which names what went as well; of these only what stands in backquotes counts:
+Read are README.md and docs/*.md but docs/CHANGES.md and docs/PORT.md, which name what went as well; of these only what stands in backquotes counts:
 - a path, from the top, from crates/ or from docs/, is there; a file's name alone is some file's;
 - `crate/edit`, without an ending, is that crate's must-fail edit;
 - names behind a path, or before the word "of" and a path or a crate, are declared in that file or below that folder;
@@ -30,14 +30,14 @@ WORDS = set(
 # Limits of the page of promises, and where they stand again.
 PAGE = "crates/gateway/specs/Promises.antt"
 LIMITS = [
-    ("answerRoom", "docs/include/gateway.h", r"GATEWAY_ANSWER_ROOM (\d+)"),
-    ("answerRoom", "docs/examples/map/src/lib.rs", r"ANSWER_ROOM: usize = (\d+)"),
-    ("answerRoom", "tests/differential/src/library.rs", r"ANSWER_ROOM: usize = (\d+)"),
-    ("answerRoom", "README.md", r"lend ([\d,]+) bytes"),
-    ("longestAddress", "docs/include/gateway.h", r"address is over ([\d,]+) bytes"),
-    ("longestAddress", "docs/src/address.rs", r"LIMIT: usize = (\d+)"),
-    ("longestAddress", "tests/rules.py", r"LONGEST_ADDRESS = (\d+)"),
-    ("longestAddress", "README.md", r"address is over ([\d,]+) bytes"),
+    ("answer_room", "docs/include/gateway.h", r"GATEWAY_ANSWER_ROOM (\d+)"),
+    ("answer_room", "docs/examples/map/src/lib.rs", r"ANSWER_ROOM: usize = (\d+)"),
+    ("answer_room", "tests/differential/src/library.rs", r"ANSWER_ROOM: usize = (\d+)"),
+    ("answer_room", "README.md", r"lend ([\d,]+) bytes"),
+    ("longest_address", "docs/include/gateway.h", r"address is over ([\d,]+) bytes"),
+    ("longest_address", "docs/src/address.rs", r"LIMIT: usize = (\d+)"),
+    ("longest_address", "tests/rules.py", r"LONGEST_ADDRESS = (\d+)"),
+    ("longest_address", "README.md", r"address is over ([\d,]+) bytes"),
 ]
 
 NAME = re.compile(r"[A-Za-z_][A-Za-z0-9_'·-]*$")
@@ -180,7 +180,7 @@ def main():
     wrong = []
     count = check_limits(wrong)
     for document in [TOP / "README.md", *sorted((TOP / "docs").glob("*.md"))]:
-        if document.name != "CHANGES.md":
+        if document.name not in ("CHANGES.md", "PORT.md"):
             for number, block in paragraphs(document.read_text()):
                 count += check(f"{document.relative_to(TOP)}:{number}", block, wrong)
     for line in wrong:

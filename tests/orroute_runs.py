@@ -5,7 +5,7 @@ at odd places, into a slow reader, with lines at the limit, and with tables that
     python3 tests/orroute_runs.py [PROGRAM [PLAIN]]
 
 What must come out is stored beside each run; where nothing is stored, it is what the plain program of docs/src/ writes. Run it from the
-repository's root after `rt check orroute` and tests/plain_vectors.py. The last line counts the runs; the first that differs ends it."""
+repository's root after `tools/build orroute` and tests/plain_vectors.py. The last line counts the runs; the first that differs ends it."""
 import fcntl
 import os
 import shutil

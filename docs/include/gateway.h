@@ -1,7 +1,7 @@
 /*
  * gateway.h: mail addresses between RFC 822 and X.400 under a table, dates, header mailboxes and the restricted encoding of local
  * parts, for C programs on x86-64 (System V calling convention).
- * Link target/staticlib/libgateway.a, which `rt staticlib gateway` makes; beside it only the C library is needed.
+ * Link target/staticlib/libgateway.a, which `tools/build gateway` makes; beside it only the C library is needed.
  *
  * A table is a text of lines that end in LF, fields parted by single tabs:
  *

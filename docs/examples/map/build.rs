@@ -1,4 +1,4 @@
-//! Links libgateway.a, from the directory that GATEWAY_LIB names, or else from where `rt staticlib gateway` puts it.
+//! Links libgateway.a, from the directory that GATEWAY_LIB names, or else from where `tools/build gateway` puts it.
 
 use std::{env, path::Path};
 
