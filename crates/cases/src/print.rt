@@ -1,5 +1,5 @@
 // What is printed: texts, numbers, and what a call wrote into its buffer.
-ghost use Rattle.std.specs.Prelude.{◌≡◌};
+ghost use Rattle.std.specs.Prelude.{◌≡◌, IfErr};
 ghost use Rattle.cases.specs.Print.{filled_from};
 
 use std::io;
@@ -8,7 +8,7 @@ use std::io::{Stdout, Write};
 // What a buffer is filled with before a call: a byte that no text has.
 pub const FILLED: u8 = 255;
 
-// Standard output, and what came of the writes to it: behind one that failed nothing is written.
+// Standard output, and what came of the writes to it: behind one that failed nothing is written, and its error stays.
 #[derive(Drop)]
 pub struct Output {
     stream: Stdout,
@@ -16,7 +16,9 @@ pub struct Output {
 }
 
 impl Output {
-    pub fn new(stream: Stdout) -> Output {
+    pub fn new(stream: Stdout) -> Output
+        ensures { result.written ≡ Ok tt }
+    {
         Output {
             stream,
             written: Ok(()),
@@ -24,18 +26,24 @@ impl Output {
     }
 
     // What came of all writes: the error of the one that failed.
-    pub fn written(self) -> io::Result<()> {
+    pub fn written(self) -> io::Result<()>
+        ensures { result ≡ self.written }
+    {
         self.written
     }
 }
 
-pub fn say(to: &mut Output, s: &[u8]) {
+pub fn say(to: &mut Output, s: &[u8])
+    ensures { IfErr to.old.written (λ _. to.new.written ≡ to.old.written) }
+{
     if to.written.is_ok() {
         to.written = Write::write_all(&mut to.stream, s);
     }
 }
 
-pub fn say_number(to: &mut Output, n: usize) {
+pub fn say_number(to: &mut Output, n: usize)
+    ensures { IfErr to.old.written (λ _. to.new.written ≡ to.old.written) }
+{
     if to.written.is_ok() {
         to.written = write!(to.stream, "{n}");
     }
