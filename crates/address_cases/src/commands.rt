@@ -1,14 +1,15 @@
 // The commands, one at a time.
+// How long a case may be is asked where it is used: `main` alone reads lines, and a struct for one would be made for each.
 ghost use Rattle.std.specs.Prelude.{◌≤◌, length};
 ghost use Rattle.address_cases.specs.Limits.{longest_case};
 
 use cases::parts::{first_field, front, rest, second_field};
 use cases::print::{Output, say, say_flag, say_number};
 use cases::read::unhex;
-use mailaddr::code::{Decoded, decode, put_coded};
+use mailaddr::code::{decode, put_coded};
 use mailaddr::domain::{count_parts, is_domain, part_start};
 use mailaddr::shape::{
-    LONGEST_ADDRESS, Parted, ShapeRead, is_readable, put_local, read_shape, unquote_local,
+    AddressFault, LONGEST_ADDRESS, Parted, is_readable, put_local, read_shape, unquote_local,
 };
 use mailaddr::tail::shared_tail;
 
@@ -59,9 +60,9 @@ fn print_shape(to: &mut Output, s: &[u8])
     requires { length s.now ≤ longest_case }
 {
     match read_shape(s) {
-        ShapeRead::Address(parted) => print_parted(to, s, parted),
-        ShapeRead::TooLong => say(to, b"2"),
-        ShapeRead::NoShape => say(to, b"1"),
+        Ok(parted) => print_parted(to, s, parted),
+        Err(AddressFault::TooLong) => say(to, b"2"),
+        Err(AddressFault::NoShape) => say(to, b"1"),
     }
 }
 
@@ -79,11 +80,11 @@ fn print_decoded(to: &mut Output, s: &[u8])
 {
     let mut out = [0u8; ROOM];
     match decode(&mut out, s) {
-        Decoded::Length(n) => {
+        Some(n) => {
             say(to, b"0 ");
             say(to, front(&out, n));
         }
-        Decoded::Undecoded => say(to, b"5"),
+        None => say(to, b"5"),
     }
 }
 
@@ -107,6 +108,7 @@ fn print_address(to: &mut Output, s: &[u8], domain: &[u8])
 // The parts from the right, each with a bar behind it.
 fn print_each_part(to: &mut Output, s: &[u8]) {
     let mut end = s.len();
+    // loop: from the right, each part in front of the one before it, by the function that is tried here
     loop {
         let start = part_start(s, end);
         say(to, &s[start..end]);

@@ -1,21 +1,17 @@
 -- Laws of digits, and of the bytes that they spell, written to the front of a buffer.
 -- Assumes nothing.
 use mathlib.Core.Path.{◌≡◌, refl, sym, ◌∙◌}
-use mathlib.Core.Bool.{true}
 use mathlib.Core.List.{List, [], ◌∷◌}
 use Prim.Native.Nat.{ℕ, zero, suc, ◌+◌, ◌*◌, ◌≤◌, ◌<◌}
 use native.Mathlib.Numerals.{add-one}
 use native.Mathlib.Omega.{arith}
-use borrow.Author.Tests.{eqb-true}
-use lib.Dec.{T, eqb}
+use lib.Dec.{eqb}
 use lib.ListN.{get_or, length, take, drop, set, length-take, drop_of_length-le}
 use lib.Seq.{sets, drop-cons, get_or-take}
-use Rattle.chars.proofs.Laws.Class.{matches, on_range}
+use Rattle.chars.specs.Parts.{before, run}
+use Rattle.chars.proofs.Laws.Lists.{by_test}
+use Rattle.cases.specs.Lines.{lines}
 use Rattle.cases.specs.Read.{Unhexed, hex_byte, hex_bytes}
-
--- two numbers of a byte agree on a range where a computed test says so
-pub numbers_on_range : (f g : ℕ → ℕ) (lo n : ℕ) → T (matches (λ _. true) (λ b. eqb (f b) (g b)) lo n) → (b : ℕ) → lo ≤ b → b < lo + n → f b ≡ g b
-numbers_on_range f g lo n t b l h = eqb-true (f b) (g b) (sym (on_range (λ _. true) (λ b. eqb (f b) (g b)) lo n t b l h))
 
 -- the byte at a place of those that a text spells
 hex_at : (s : List ℕ) (n : ℕ) → 2 * n + 1 < length s → (n < length (hex_bytes s)) × (get_or (hex_bytes s) n 0 ≡ hex_byte (get_or s (2 * n) 0) (get_or s (2 * n + 1) 0))
@@ -65,3 +61,23 @@ unhexed old s new n l h e = record {
   wrote = record { moved = omega arith; holds = sym (e ∙ rw (drop_of_length-le (take (length old) (hex_bytes s)))) };
   fits = omega (arith, length-take (length old) (hex_bytes s));
 }
+
+-- one more byte in front of the first line
+more_before : (x : ℕ) (s : List ℕ) (n : ℕ) → lines s ≡ take n s ∷ lines (drop (n + 1) s) → before x (lines s) ≡ take (suc n) (x ∷ s) ∷ lines (drop (suc n + 1) (x ∷ s))
+unfolding before
+more_before x s n e = rw (e, add-one (suc n), add-one n)
+
+-- the first line of a text that has any, and the others
+pub lines_step : (s : List ℕ) → 0 < length s → lines s ≡ take (run 10 s) s ∷ lines (drop (run 10 s + 1) s)
+unfolding lines run before
+lines_step [] h = absurd (omega arith)
+lines_step (x ∷ []) h = by_test (eqb x 10) (λ e. rw e) (λ e. rw e)
+lines_step (x ∷ y ∷ s) h =
+    by_test (eqb x 10)
+    (λ e. rw e)
+    (λ e. rw e (more_before x (y ∷ s) (run 10 (y ∷ s)) (lines_step (y ∷ s) (omega arith))))
+
+pub no_lines : (s : List ℕ) → length s ≡ 0 → lines s ≡ []
+unfolding lines
+no_lines [] h = refl
+no_lines (x ∷ s) h = absurd (omega arith)

@@ -1,7 +1,13 @@
 -- The lines of a text, and the two fields of a line.
 -- Assumes nothing.
-use Rattle.std.specs.Prelude.{◌≡◌, List, ℕ, ◌+◌, ◌≤◌, ◌<◌, length, take, drop}
-use Rattle.chars.specs.Parts.{run}
+use Rattle.std.specs.Prelude.{◌≡◌, List, [], ◌∷◌, ℕ, ◌+◌, ◌≤◌, ◌<◌, cond, eqb, length, take, drop}
+use Rattle.chars.specs.Parts.{before, run}
+
+-- the lines of a text, each without its LF; the last one may lack it, and behind an LF at the end there is no further line
+unfoldable pub lines : List ℕ → List (List ℕ)
+unfolding before
+lines [] = []
+lines (x ∷ s) = cond (eqb x 10) ([] ∷ lines s) (before x (lines s))
 
 -- a line ends in front of the first LF behind its start, or where the text ends
 pub record LineEnd (s : List ℕ) (from end : ℕ) : Type 0 where

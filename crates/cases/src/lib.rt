@@ -7,3 +7,4 @@ pub mod lines;
 pub mod parts;
 pub mod print;
 pub mod read;
+pub mod run;

@@ -8,20 +8,14 @@ use chars::parts::part_end;
 pub fn front(s: &[u8], n: usize) -> &[u8]
     ensures { result.now ≡ take n s.now }
 {
-    if s.len() < n {
-        return s;
-    }
-    &s[0..n]
+    &s[..n.min(s.len())]
 }
 
 // What stands from a place on.
 pub fn rest(s: &[u8], at: usize) -> &[u8]
     ensures { result.now ≡ drop at s.now }
 {
-    if s.len() < at {
-        return &s[0..0];
-    }
-    &s[at..]
+    &s[at.min(s.len())..]
 }
 
 // The field in front of the first tab, or all of it.

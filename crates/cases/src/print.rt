@@ -2,6 +2,7 @@
 ghost use Rattle.std.specs.Prelude.{◌≡◌, IfErr};
 ghost use Rattle.cases.specs.Print.{filled_from};
 
+use crate::parts::{front, rest};
 use std::io;
 use std::io::{Stdout, Write};
 
@@ -51,11 +52,7 @@ pub fn say_number(to: &mut Output, n: usize)
 
 // Whether something holds, as 1 or 0.
 pub fn say_flag(to: &mut Output, b: bool) {
-    if b {
-        say(to, b"1");
-        return;
-    }
-    say(to, b"0");
+    say(to, if b { b"1" } else { b"0" });
 }
 
 // A byte as two hexadecimal digits.
@@ -67,13 +64,8 @@ fn say_byte(to: &mut Output, b: u8) {
 
 // The first n bytes of a buffer, or all of it, in hexadecimal.
 fn say_front(to: &mut Output, out: &[u8], n: usize) {
-    let mut i = 0;
-    while i < n {
-        if out.len() <= i {
-            return;
-        }
-        say_byte(to, out[i]);
-        i += 1;
+    for &b in front(out, n) {
+        say_byte(to, b);
     }
 }
 
@@ -81,23 +73,12 @@ fn say_front(to: &mut Output, out: &[u8], n: usize) {
 fn is_filled(out: &[u8], from: usize) -> bool
     ensures { result ≡ filled_from from out.now }
 {
-    let mut i = from;
-    while i < out.len() {
-        if out[i] != FILLED {
-            return false;
-        }
-        i += 1;
-    }
-    true
+    rest(out, from).iter().all(|&b| b == FILLED)
 }
 
 // The mark for the rest of the buffer.
 fn say_rest(to: &mut Output, kept: bool) {
-    if kept {
-        say(to, b"=");
-        return;
-    }
-    say(to, b"!");
+    say(to, if kept { b"=" } else { b"!" });
 }
 
 // What a call told and wrote: the number, the length that is told, the front of the buffer of that length in hexadecimal, and whether the rest

@@ -8,16 +8,14 @@ use chars::parts::byte_at;
 pub const LARGEST: usize = 9999;
 
 // The value of a decimal digit; 0 for what is none.
+#[tactic(auto, using(std::proofs::lemmas::Bool::Decides::nat_tests), unfolding(crate::specs::Read::decimals, crate::specs::Read::value_in, chars::specs::Lists::member, chars::specs::Lists::bytes, chars::specs::Parts::run))]
 fn digit(b: u8) -> usize
     ensures { ValueOf decimals 9 b result }
 {
-    if b < b'0' {
-        return 0;
+    match b {
+        b'0'..=b'9' => (b - b'0') as usize,
+        _ => 0,
     }
-    if b <= b'9' {
-        return (b - b'0') as usize;
-    }
-    0
 }
 
 // The number of the four digits at the front of a text.
@@ -32,22 +30,15 @@ pub fn number(s: &[u8]) -> usize
 }
 
 // The value of a hexadecimal digit in small letters; 0 for what is none.
+#[tactic(auto, using(std::proofs::lemmas::Bool::Decides::nat_tests), unfolding(crate::specs::Read::hexadecimals, crate::specs::Read::value_in, chars::specs::Lists::member, chars::specs::Lists::bytes, chars::specs::Parts::run))]
 fn nibble(b: u8) -> u8
     ensures { ValueOf hexadecimals 15 b result }
 {
-    if b < b'0' {
-        return 0;
+    match b {
+        b'0'..=b'9' => b - b'0',
+        b'a'..=b'f' => b - b'a' + 10,
+        _ => 0,
     }
-    if b <= b'9' {
-        return b - b'0';
-    }
-    if b < b'a' {
-        return 0;
-    }
-    if b <= b'f' {
-        return b - b'a' + 10;
-    }
-    0
 }
 
 // The byte that the two digits at a place spell.
@@ -62,15 +53,9 @@ fn spelt(s: &[u8], at: usize) -> u8
 pub fn unhex(dst: &mut [u8], s: &[u8]) -> usize
     ensures { Unhexed dst.old s.now result dst.new }
 {
-    let mut n = 0;
-    let mut i = 0;
-    while n < dst.len() {
-        if s.len() - i < 2 {
-            return n;
-        }
-        dst[n] = spelt(s, i);
-        n += 1;
-        i += 2;
+    let size = dst.len().min(s.len() / 2);
+    for n in 0..size {
+        dst[n] = spelt(s, 2 * n);
     }
-    n
+    size
 }

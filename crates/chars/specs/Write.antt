@@ -1,6 +1,6 @@
 -- Writing text into a buffer that somebody lent.
 -- Assumes nothing.
-use Rattle.std.specs.Prelude.{◌≡◌, ℕ, ◌+◌, cond, List, ◌++◌, ltb, length, drop}
+use Rattle.std.specs.Prelude.{◌≡◌, ℕ, ◌+◌, cond, List, ◌++◌, ltb, length, drop, Option, Some, None}
 use Rattle.std.proofs.lemmas.List.Edits.{sets}
 
 -- the text at the front of the buffer, and the rest as before
@@ -11,6 +11,15 @@ front text old = text ++ drop (length text) old
 pub record Wrote (old : List ℕ) (at : ℕ) (text : List ℕ) (next : ℕ) (new : List ℕ) : Type 0 where
   pub moved : next ≡ at + length text
   pub holds : new ≡ sets old at text
+
+-- a text for the front of a buffer: its length where there is room for it
+unfoldable pub placed_size : List ℕ → List ℕ → Option ℕ
+placed_size s old = cond (ltb (length old) (length s)) None (Some (length s))
+
+-- and what the buffer then holds; where there is no room, what it held
+unfoldable pub placed_buffer : List ℕ → List ℕ → List ℕ
+unfolding front
+placed_buffer s old = cond (ltb (length old) (length s)) old (front s old)
 
 -- what a call that writes a text into a lent buffer comes to: its number, the text's length with 0 (else 0), and what the buffer then holds
 pub record TextResult : Type 0 where

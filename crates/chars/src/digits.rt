@@ -1,32 +1,35 @@
 // Three decimal digits, by which a character's number is written.
-ghost use Rattle.std.specs.Prelude.{◌≡◌, ◌≤◌, length, drop};
-ghost use Rattle.chars.specs.Digits.{three_digits};
+ghost use Rattle.std.specs.Prelude.{◌≡◌, ◌≤◌, IfSome, drop};
+ghost use Rattle.chars.specs.Digits.{digit_value, spelt_character};
 
-use crate::class::{HIGHEST_CODE, is_digit};
-use crate::parts::byte_at;
+use crate::class::HIGHEST_CODE;
 
 // The highest number of a character, as three digits spell it.
 pub const HIGHEST_NUMBER: u16 = HIGHEST_CODE as u16;
 
-// The answer where no three digits stand.
-pub const NO_DIGITS: u16 = 999;
-
-// The number that three digits at a place spell.
-pub fn number_at(s: &[u8], at: usize) -> u16
-    requires { at ≤ length s.now }
-    ensures { result ≡ three_digits (drop at s.now) }
+// The value of a digit.
+#[tactic(auto, using(std::proofs::lemmas::Bool::Decides::nat_tests), unfolding(crate::specs::Digits::digit_value, crate::specs::Class::is_digit, crate::specs::Class::between))]
+fn digit_value(b: u8) -> Option<u16>
+    ensures value { result ≡ digit_value b }
+    ensures small { IfSome result (λ d. d ≤ 9) }
 {
-    let a = byte_at(s, at);
-    let b = byte_at(s, at + 1);
-    let c = byte_at(s, at + 2);
-    if !is_digit(a) {
-        return NO_DIGITS;
+    match b {
+        b'0'..=b'9' => Some((b - b'0') as u16),
+        _ => None,
     }
-    if !is_digit(b) {
-        return NO_DIGITS;
+}
+
+// The character whose number three digits at a place spell: none where no three digits stand there, or no character has their number.
+pub fn character_at(s: &[u8], at: usize) -> Option<u8>
+    ensures { result ≡ spelt_character (drop at s.now) }
+{
+    let [a, b, c, ..] = s.get(at..)? else {
+        return None;
+    };
+    let n = digit_value(*a)? * 100 + digit_value(*b)? * 10 + digit_value(*c)?;
+    if n <= HIGHEST_NUMBER {
+        Some(n as u8)
+    } else {
+        None
     }
-    if !is_digit(c) {
-        return NO_DIGITS;
-    }
-    (a - b'0') as u16 * 100 + (b - b'0') as u16 * 10 + (c - b'0') as u16
 }

@@ -12,44 +12,32 @@ use crate::class::{Class, all_in, is_in};
 pub fn byte_at(s: &[u8], i: usize) -> u8
     ensures { result ≡ get_or s.now i 0 }
 {
-    if i < s.len() { s[i] } else { 0 }
+    s.get(i).copied().unwrap_or(0)
 }
 
 // Where the part that starts at `from` ends: at the next separator, or at the end of the text.
 pub fn part_end(s: &[u8], from: usize, sep: u8) -> usize
     ensures { result ≡ from + run sep (drop from s.now) }
 {
-    let mut i = from;
-    while i < s.len() {
-        if s[i] == sep {
-            return i;
-        }
-        i += 1;
-    }
-    i
+    let rest = &s[from.min(s.len())..];
+    from + rest.iter().position(|&b| b == sep).unwrap_or(rest.len())
 }
 
-// Whether `s` is parts of the class, none empty, joined by single separators.
+// Whether `s` is parts of the class, none empty, joined by single separators. (The loop returns at the first byte that decides.)
 pub fn is_parted(s: &[u8], sep: u8, class: Class) -> bool
     ensures { result ≡ is_parted sep (is_in class) s.now }
 {
     // `open`: nothing of the present part has come yet
     let mut open = true;
-    let mut i = 0;
-    while i < s.len() {
-        let b = s[i];
+    for &b in s {
         if b == sep {
             if open {
                 return false;
             }
-            open = true;
-        } else {
-            if !is_in(class, b) {
-                return false;
-            }
-            open = false;
+        } else if !is_in(class, b) {
+            return false;
         }
-        i += 1;
+        open = b == sep;
     }
     !open
 }
@@ -62,13 +50,11 @@ pub fn is_atoms(s: &[u8]) -> bool
 }
 
 // Whether `s` has no leading, trailing or adjacent space.
+#[tactic(auto, using(std::proofs::lemmas::Bool::Decides::nat_tests, crate::proofs::Laws::Spaces::empty_spaced, crate::proofs::Laws::Spaces::some_spaced), unfolding(crate::specs::Class::is_in))]
 pub fn well_spaced(s: &[u8]) -> bool
     ensures { result ≡ well_spaced s.now }
 {
-    if s.len() == 0 {
-        return true;
-    }
-    is_parted(s, b' ', Class::Any)
+    s.is_empty() || is_parted(s, b' ', Class::Any)
 }
 
 // Whether `s` is not empty, of printable string characters, and well spaced: one pass for all three.
@@ -82,21 +68,10 @@ pub fn is_text(s: &[u8]) -> bool
 pub const LONGEST_PART: usize = 63;
 
 // Whether `s` is a domain part: 1 to 63 letters, digits and inner hyphens.
+#[tactic(auto, using(std::proofs::lemmas::Bool::Decides::nat_tests, crate::proofs::Laws::Domain::domain_tests), unfolding(crate::specs::Class::is_in))]
 pub fn is_domain_part(s: &[u8]) -> bool
     ensures { result ≡ is_domain_part s.now }
 {
     let n = s.len();
-    if n == 0 {
-        return false;
-    }
-    if LONGEST_PART < n {
-        return false;
-    }
-    if s[0] == b'-' {
-        return false;
-    }
-    if s[n - 1] == b'-' {
-        return false;
-    }
-    all_in(s, Class::Label)
+    0 < n && n <= LONGEST_PART && s[0] != b'-' && s[n - 1] != b'-' && all_in(s, Class::Label)
 }

@@ -8,14 +8,14 @@
 mod print;
 mod witness;
 
-use cases::files::{read_file, read_full};
-use cases::lines::{line, next_line};
+use cases::files::read_file;
+use cases::lines::lines_of;
 use cases::parts::front;
 use cases::print::Output;
+use cases::run::read_and_run;
 use print::print_verdict;
 use soundness_check::check::check;
 use std::io;
-use std::io::{Stdin, Stdout};
 use std::rt::Files;
 
 // Standard input, at most; a table with one byte too many.
@@ -41,23 +41,12 @@ fn run_table(rt: &impl Files, to: &mut Output, name: &[u8]) {
 }
 
 fn run(rt: &impl Files, to: &mut Output, s: &[u8]) {
-    let mut from = 0;
-    while from < s.len() {
-        run_table(rt, to, line(s, from));
-        from = next_line(s, from);
+    for name in lines_of(s) {
+        run_table(rt, to, name);
     }
-}
-
-// Reads standard input, and runs it.
-fn read_and_run(rt: &impl Files, from: Stdin, to: Stdout, space: &mut [u8]) -> io::Result<()> {
-    let mut from = from;
-    let n = read_full(&mut from, space)?;
-    let mut to = Output::new(to);
-    run(rt, &mut to, &space[..n]);
-    to.written()
 }
 
 fn main(rt: HostRuntime) -> io::Result<()> {
     let mut space = [0u8; ROOM];
-    read_and_run(&rt, rt.stdin(), rt.stdout(), &mut space)
+    read_and_run(rt.stdin(), rt.stdout(), &mut space, |to, s| run(&rt, to, s))
 }

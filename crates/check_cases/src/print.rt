@@ -2,7 +2,7 @@
 use crate::witness::is_lost;
 use cases::print::{Output, say, say_number};
 use oraddr::record::Record;
-use soundness::answers::{CheckAnswer, Checked};
+use soundness::answers::CheckRefusal;
 
 fn print_line(to: &mut Output, line: usize) {
     say(to, b"7 ");
@@ -18,12 +18,10 @@ fn print_witness(to: &mut Output, table: &[u8], rec: Record) {
     }
 }
 
-pub(crate) fn print_verdict(to: &mut Output, table: &[u8], done: Checked) {
-    let rec = done.record;
-    let answer = done.answer;
-    match answer {
-        CheckAnswer::Sound => say(to, b"0\n"),
-        CheckAnswer::Unsound => print_witness(to, table, rec),
-        CheckAnswer::Malformed(line) => print_line(to, line),
+pub(crate) fn print_verdict(to: &mut Output, table: &[u8], done: Result<(), CheckRefusal>) {
+    match done {
+        Ok(()) => say(to, b"0\n"),
+        Err(CheckRefusal::Unsound(witness)) => print_witness(to, table, witness),
+        Err(CheckRefusal::Malformed(line)) => print_line(to, line),
     }
 }

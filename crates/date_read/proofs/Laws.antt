@@ -1,3 +1,4 @@
 pub mod Date
+pub mod Month
 pub mod Names
 pub mod Read

@@ -1,9 +1,7 @@
 -- Request 6: a date and time with its zone's offset, and which of them there are.
 -- Assumes nothing.
-use Rattle.std.specs.Prelude.{Bool, true, ◌&&◌, cond, List, [], ◌∷◌, ℕ, ◌%◌, eqb, leb, nat_abs, get_or}
+use Rattle.std.specs.Prelude.{Option, None, Some, Bool, true, ◌&&◌, cond, List, [], ◌∷◌, ℕ, ◌%◌, eqb, leb, nat_abs, get_or}
 use Rattle.date_read.specs.declared.date.DateTime.{DateTime}
-use Rattle.date_read.specs.declared.date.Second.{Second}
-use Rattle.date_read.specs.declared.date.Second.TheVariants.{At, Absent}
 
 -- the months are numbered from 1 to this
 abbrev pub last_month : ℕ
@@ -18,9 +16,9 @@ unfoldable pub days_in : ℕ → ℕ → ℕ
 days_in year month = cond (eqb month 2 && eqb (year % 4) 0) 29 (get_or month_days month 0)
 
 -- "Seconds are 00 to 59 and stay absent if absent."
-unfoldable pub is_second : Second → Bool
-is_second (At n) = leb n 59
-is_second Absent = true
+unfoldable pub is_second : Option ℕ → Bool
+is_second (Some n) = leb n 59
+is_second None = true
 
 -- the greatest offset: "Offset hours are 00 to 23, minutes 00 to 59"
 abbrev pub most_offset : ℕ
@@ -31,7 +29,7 @@ unfoldable pub is_day : ℕ → ℕ → ℕ → Bool
 unfolding days_in
 is_day year month day = leb year 99 && leb 1 day && leb day (days_in year month)
 
-unfoldable pub is_time : ℕ → ℕ → Second → Bool
+unfoldable pub is_time : ℕ → ℕ → Option ℕ → Bool
 unfolding is_second
 is_time hour minute second = leb hour 23 && leb minute 59 && is_second second
 

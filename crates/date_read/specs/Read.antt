@@ -1,17 +1,12 @@
 -- Request 6: X.400's UTCTime and RFC 822's date-time, read. A number that is not there counts as 100, an offset that is not there as 1,440
 -- minutes, and a month as 0: no date has any of them, so that one test decides.
 -- Assumes nothing.
-use Rattle.std.specs.Prelude.{Bool, ◌&&◌, ◌||◌, not, cond, List, [], ◌∷◌, ℕ, suc, ◌+◌, ◌-◌, ◌*◌, eqb, leb, ℤ, pos, neg_ℤ, length, get_or, take, drop}
-use Rattle.std.proofs.Math.Option.{Option, none, some}
+use Rattle.std.specs.Prelude.{Option, None, Some, Bool, ◌&&◌, ◌||◌, not, cond, List, [], ◌∷◌, ℕ, suc, ◌+◌, ◌-◌, ◌*◌, eqb, leb, ℤ, pos, neg_ℤ, length, get_or, take, drop}
 use Rattle.chars.specs.Case.{same_text}
 use Rattle.chars.specs.Class.{is_digit}
 use Rattle.chars.specs.Lists.{bytes}
 use Rattle.date_read.specs.Date.{is_date}
 use Rattle.date_read.specs.declared.date.DateTime.{DateTime}
-use Rattle.date_read.specs.declared.date.Second.{Second}
-use Rattle.date_read.specs.declared.date.Second.TheVariants.{At, Absent}
-use Rattle.date_read.specs.declared.read.DateRead.{DateRead}
-use Rattle.date_read.specs.declared.read.DateRead.TheVariants.{Date, NoDate}
 
 -- ---- numbers and names
 
@@ -44,17 +39,6 @@ month_names =
 abbrev pub day_names : List (List ℕ)
 unfolding bytes
 day_names = bytes "Mon" ∷ bytes "Tue" ∷ bytes "Wed" ∷ bytes "Thu" ∷ bytes "Fri" ∷ bytes "Sat" ∷ bytes "Sun" ∷ []
-
--- the code's tables: names of three letters, one behind the other
-unfoldable pub threes : List ℕ → List (List ℕ)
-threes [] = []
-threes (a ∷ []) = []
-threes (a ∷ b ∷ []) = []
-threes (a ∷ b ∷ c ∷ s) = (a ∷ b ∷ c ∷ []) ∷ threes s
-
-unfoldable pub month_letters : List ℕ
-unfolding bytes
-month_letters = bytes "JanFebMarAprMayJunJulAugSepOctNovDec"
 
 -- the number, from 1, of the first of the names that a text is, "Letters are compared case aside"; 0 where it is none
 unfoldable pub number_in : ℕ → List (List ℕ) → List ℕ → ℕ
@@ -98,7 +82,7 @@ unfoldable pub utc_end : List ℕ → ℕ
 unfolding is_digit
 utc_end s = cond (is_digit (get_or s 10 0)) 12 10
 
-unfoldable pub utc_with : List ℕ → Second → ℤ → DateTime
+unfoldable pub utc_with : List ℕ → Option ℕ → ℤ → DateTime
 unfolding two_digits
 utc_with s second offset =
     record {
@@ -113,11 +97,11 @@ utc_with s second offset =
 
 unfoldable pub utc_date : List ℕ → DateTime
 unfolding two_digits utc_end utc_with zone_of
-utc_date s = utc_with s (cond (eqb (utc_end s) 12) (At (two_digits s 10)) Absent) (zone_of utc_names (drop (utc_end s) s))
+utc_date s = utc_with s (cond (eqb (utc_end s) 12) (Some (two_digits s 10)) None) (zone_of utc_names (drop (utc_end s) s))
 
 unfoldable pub kept : DateTime → Option DateTime
 unfolding is_date
-kept d = cond (is_date d) (some d) none
+kept d = cond (is_date d) (Some d) None
 
 unfoldable pub read_utc : List ℕ → Option DateTime
 unfolding kept utc_date
@@ -134,7 +118,7 @@ rest_end r = cond (eqb (get_or r 13 0) 58) 16 13
 unfoldable pub spaced_at : List ℕ → ℕ → Bool
 spaced_at r end = eqb (get_or r 0 0) 32 && eqb (get_or r 4 0) 32 && eqb (get_or r 7 0) 32 && eqb (get_or r 10 0) 58 && eqb (get_or r end 0) 32
 
-unfoldable pub rest_with : List ℕ → ℕ → Second → ℤ → DateTime
+unfoldable pub rest_with : List ℕ → ℕ → Option ℕ → ℤ → DateTime
 unfolding number_in two_digits
 rest_with r day second offset =
     record {
@@ -149,11 +133,11 @@ rest_with r day second offset =
 
 unfoldable pub rest_date : ℕ → List ℕ → DateTime
 unfolding two_digits rest_end rest_with zone_of
-rest_date day r = rest_with r day (cond (eqb (rest_end r) 16) (At (two_digits r 14)) Absent) (zone_of date_names (drop (rest_end r + 1) r))
+rest_date day r = rest_with r day (cond (eqb (rest_end r) 16) (Some (two_digits r 14)) None) (zone_of date_names (drop (rest_end r + 1) r))
 
 unfoldable pub read_rest : ℕ → List ℕ → Option DateTime
 unfolding spaced_at rest_end kept rest_date
-read_rest day r = cond (spaced_at r (rest_end r)) (kept (rest_date day r)) none
+read_rest day r = cond (spaced_at r (rest_end r)) (kept (rest_date day r)) None
 
 unfoldable pub read_body : List ℕ → Option DateTime
 unfolding read_rest one_digit two_digits
@@ -164,10 +148,5 @@ unfoldable pub read_date : List ℕ → Option DateTime
 unfolding read_body number_in
 read_date s =
     cond (eqb (get_or s 3 0) 44)
-    (cond (eqb (get_or s 4 0) 32 && not (eqb (number_in 1 day_names (take 3 s)) 0)) (read_body (drop 5 s)) none)
+    (cond (eqb (get_or s 4 0) 32 && not (eqb (number_in 1 day_names (take 3 s)) 0)) (read_body (drop 5 s)) None)
     (read_body s)
-
--- what the code's answer stands for
-abbrev pub reading : DateRead → Option DateTime
-reading (Date d) = some d
-reading NoDate = none

@@ -2,14 +2,7 @@
 ghost use Rattle.std.specs.Prelude.{◌≡◌, leb, nat_abs};
 ghost use Rattle.date_read.specs.Date.{days_in, is_date, is_day, is_second, is_time, most_offset};
 
-// The second, which may not be told.
-#[derive(Clone, Copy)]
-pub enum Second {
-    At(usize),
-    Absent,
-}
-
-// Two digits of year; the offset in minutes, negative west of Greenwich.
+// Two digits of year; the second, where it is told; the offset in minutes, negative west of Greenwich.
 #[derive(Clone, Copy)]
 pub struct DateTime {
     pub year: usize,
@@ -17,7 +10,7 @@ pub struct DateTime {
     pub day: usize,
     pub hour: usize,
     pub minute: usize,
-    pub second: Second,
+    pub second: Option<usize>,
     pub offset: i32,
 }
 
@@ -50,71 +43,49 @@ fn february(year: usize) -> usize
 fn days_in(year: usize, month: usize) -> usize
     ensures { result ≡ days_in year month }
 {
-    if LAST_MONTH < month {
-        return 0;
-    }
     if month == 2 {
-        return february(year);
+        february(year)
+    } else if month <= LAST_MONTH {
+        MONTH_DAYS[month]
+    } else {
+        0
     }
-    MONTH_DAYS[month]
 }
 
-fn is_second(second: Second) -> bool
+#[tactic(auto, unfolding(crate::specs::Date::is_second))]
+fn is_second(second: Option<usize>) -> bool
     ensures { result ≡ is_second second }
 {
-    match second {
-        Second::At(n) => n <= LAST_SECOND,
-        Second::Absent => true,
-    }
+    second.is_none_or(|n| n <= LAST_SECOND)
 }
 
 // Whether an offset is within a day.
 fn is_offset(offset: i32) -> bool
     ensures { result ≡ leb (nat_abs offset) most_offset }
 {
-    if offset < LEAST_OFFSET {
-        return false;
-    }
-    offset <= MOST_OFFSET
+    (LEAST_OFFSET..=MOST_OFFSET).contains(&offset)
 }
 
 // Whether there is such a time of day.
-fn is_time(hour: usize, minute: usize, second: Second) -> bool
+#[tactic(auto, unfolding(crate::specs::Date::is_time))]
+fn is_time(hour: usize, minute: usize, second: Option<usize>) -> bool
     ensures { result ≡ is_time hour minute second }
 {
-    if LAST_HOUR < hour {
-        return false;
-    }
-    if LAST_MINUTE < minute {
-        return false;
-    }
-    is_second(second)
+    hour <= LAST_HOUR && minute <= LAST_MINUTE && is_second(second)
 }
 
 // Whether there is such a day.
+#[tactic(auto, unfolding(crate::specs::Date::is_day))]
 fn is_day(year: usize, month: usize, day: usize) -> bool
     ensures { result ≡ is_day year month day }
 {
-    if LAST_YEAR < year {
-        return false;
-    }
-    if day < 1 {
-        return false;
-    }
-    day <= days_in(year, month)
+    year <= LAST_YEAR && (1..=days_in(year, month)).contains(&day)
 }
 
 // Whether there is such a date.
+#[tactic(auto, unfolding(crate::specs::Date::is_date))]
 pub fn is_date(d: DateTime) -> bool
     ensures { result ≡ is_date d }
 {
-    if !is_day(d.year, d.month, d.day) {
-        return false;
-    }
-    let second = d.second;
-    if !is_time(d.hour, d.minute, second) {
-        return false;
-    }
-    let offset = d.offset;
-    is_offset(offset)
+    is_day(d.year, d.month, d.day) && is_time(d.hour, d.minute, d.second) && is_offset(d.offset)
 }

@@ -1,6 +1,5 @@
 pub mod Back
 pub mod Bounds
 pub mod Convert
-pub mod Month
 pub mod Offset
 pub mod Written

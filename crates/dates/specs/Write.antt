@@ -1,11 +1,9 @@
 -- Request 6: a date written as X.400's UTCTime and as RFC 822's date-time.
 -- Assumes nothing.
-use Rattle.std.specs.Prelude.{cond, List, [], ◌∷◌, ◌++◌, ℕ, ◌+◌, ◌-◌, ◌/◌, ◌%◌, ℤ, nat_abs, get_or}
+use Rattle.std.specs.Prelude.{Option, None, Some, cond, List, [], ◌∷◌, ◌++◌, ℕ, ◌+◌, ◌-◌, ◌/◌, ◌%◌, ℤ, nat_abs, get_or}
 use Rattle.std.specs.Int.Signed.{non_neg}
 use Rattle.date_read.specs.Read.{month_names}
 use Rattle.date_read.specs.declared.date.DateTime.{DateTime}
-use Rattle.date_read.specs.declared.date.Second.{Second}
-use Rattle.date_read.specs.declared.date.Second.TheVariants.{At, Absent}
 
 -- the last two digits of a number: all of it, in a date
 unfoldable pub two : ℕ → List ℕ
@@ -24,20 +22,20 @@ unfolding two
 zone_text z = sign_of z ∷ two (nat_abs z / 60) ++ two (nat_abs z % 60)
 
 -- "Seconds .. stay absent if absent"
-unfoldable pub utc_second_text : Second → List ℕ
+unfoldable pub utc_second_text : Option ℕ → List ℕ
 unfolding two
-utc_second_text (At n) = two n
-utc_second_text Absent = []
+utc_second_text (Some n) = two n
+utc_second_text None = []
 
 unfoldable pub utc_text : DateTime → List ℕ
 unfolding two utc_second_text zone_text
 utc_text d =
     two d.year ++ two d.month ++ two d.day ++ two d.hour ++ two d.minute ++ utc_second_text d.second ++ zone_text d.offset
 
-unfoldable pub date_second_text : Second → List ℕ
+unfoldable pub date_second_text : Option ℕ → List ℕ
 unfolding two
-date_second_text (At n) = 58 ∷ two n
-date_second_text Absent = []
+date_second_text (Some n) = 58 ∷ two n
+date_second_text None = []
 
 -- a day name "is not written"; "two when written"
 unfoldable pub date_text : DateTime → List ℕ

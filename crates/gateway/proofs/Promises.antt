@@ -1,5 +1,7 @@
 -- Every statement of `specs/Promises.antt` is so.
 -- Assumes nothing.
+use Rattle.std.specs.Prelude as code
+use Rattle.std.proofs.Common.{Result, Ok, Err}
 use mathlib.Core.Path.{◌≡◌, refl, sym, ap, subst, ◌∙◌}
 use mathlib.Core.Logic.{inl, inr}
 use mathlib.Core.Bool.{true, false, cond, ◌&&◌}
@@ -21,7 +23,9 @@ use Rattle.ortext_read.specs.Apply as apply
 use Rattle.ortext_read.specs.Apply.{again, read, read_text, refused, unread}
 use Rattle.ortext_segments.specs.Keys.{keys}
 use Rattle.ortext_write.specs.Write.{record_text}
-use Rattle.mailaddr.specs.Answers.{Shaping, from_shape, no_shape, shaped, shaping, too_long}
+use Rattle.mailaddr.specs.Answers.{from_shape, shaping}
+use Rattle.mailaddr.specs.declared.shape.AddressFault.{AddressFault}
+use Rattle.mailaddr.specs.declared.shape.AddressFault.TheVariants.{NoShape, TooLong}
 use Rattle.mailaddr.specs.Code.{coded}
 use Rattle.mailaddr.specs.Shape.{Address, longest_address, shape_of}
 use Rattle.table.specs.Lines.{TableOutcome, malformed, well_formed}
@@ -191,7 +195,7 @@ demand1 =
 -- ---- demand 2
 
 -- the shape of a text that is too long
-long_shape : (s : List ℕ) → longest_address < length s → shaping s ≡ too_long
+long_shape : (s : List ℕ) → longest_address < length s → shaping s ≡ Err TooLong
 unfolding shaping
 long_shape s l = rw (lt-ltb longest_address (length s) l)
 
@@ -212,26 +216,26 @@ module _ (table : Source) (s : List ℕ) where
     under : address_to table s ≡ to_record t s
     under = under_table table s t h
 
-    by-shaping : (x : Shaping) → shaping s ≡ x → address_to table s ≡ record_by t s x
+    by-shaping : (x : Result Address AddressFault) → shaping s ≡ x → address_to table s ≡ record_by t s x
     unfolding to_record
     by-shaping x e = under ∙ ap (record_by t s) e
 
     long_two : longest_address < length s → address_to table s ≡ refused_record 2
     unfolding record_by
-    long_two l = by-shaping too_long (long_shape s l)
+    long_two l = by-shaping (Err TooLong) (long_shape s l)
 
     shapeless_one : length s ≤ longest_address → shape_of s ≡ none → address_to table s ≡ refused_record 1
     unfolding record_by from_shape
-    shapeless_one l e = by-shaping no_shape (short-shape s none l e)
+    shapeless_one l e = by-shaping (Err NoShape) (short-shape s none l e)
 
     module _ (a : Address) (l : length s ≤ longest_address) (e : shape_of s ≡ some a) where
-      of_shape : shaping s ≡ shaped a
+      of_shape : shaping s ≡ Ok a
       unfolding from_shape
       of_shape = short-shape s (some a) l e
 
       is_carried_lem : carried_whole t a ≡ true → address_to table s ≡ carrying t.gateway.path s
       unfolding record_by
-      is_carried_lem c = by-shaping (shaped a) of_shape ∙ rw c
+      is_carried_lem c = by-shaping (Ok a) of_shape ∙ rw c
 
       coded-three : carried_whole t a ≡ true → longest_coded < length (coded s) → address_to table s ≡ refused_record 3
       unfolding carrying
@@ -243,7 +247,7 @@ module _ (table : Source) (s : List ℕ) where
 
       is_read : carried_whole t a ≡ false → address_to table s ≡ mapped (record_in (result_of t a))
       unfolding record_by
-      is_read c = by-shaping (shaped a) of_shape ∙ rw c
+      is_read c = by-shaping (Ok a) of_shape ∙ rw c
 
       reads : carried_whole t a ≡ false → result_of t a ≡ read (record_in (result_of t a))
       unfolding mapped
@@ -495,10 +499,10 @@ shared_tails =
 
 -- ---- dates
 
-date_ends : (text : DateTime → List ℕ) (o : Option DateTime) (old : List ℕ) → EndsBuffer (10 ∷ 6 ∷ []) old (converted text o old)
+date_ends : (text : DateTime → List ℕ) (o : code.Option DateTime) (old : List ℕ) → EndsBuffer (10 ∷ 6 ∷ []) old (converted text o old)
 unfolding converted member
-date_ends text none old = left (10 ∷ 6 ∷ []) old 10 refl
-date_ends text (some d) old = text-placed (10 ∷ 6 ∷ []) old (text d) refl
+date_ends text code.None old = left (10 ∷ 6 ∷ []) old 10 refl
+date_ends text (code.Some d) old = text-placed (10 ∷ 6 ∷ []) old (text d) refl
 
 pub dates : Dates
 unfolding utc_to_date date_to_utc

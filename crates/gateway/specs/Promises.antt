@@ -3,7 +3,7 @@
 -- `text_of_record`, `utc_to_date`, `date_to_utc`, `restrict_text`, `unrestrict_text`, `phrase_place`), or says `Demand3`, `Routing`, `TailShown` (of `shared_tail`)
 -- or `Shows` (of `read_mailbox`) of it. `proofs/Promises.antt` proves every statement of this page.
 -- Assumes nothing.
-use Rattle.std.specs.Prelude.{◌≡◌, ◌⊎◌, Bool, true, false, cond, not, List, [], ◌∷◌, ◌++◌, map, ℕ, ◌+◌, ◌/◌, ◌%◌, ◌≤◌, ◌<◌, eqb, ltb, length, take, drop, replicate, set}
+use Rattle.std.specs.Prelude.{◌≡◌, ◌⊎◌, Bool, true, false, cond, not, List, [], ◌∷◌, ◌++◌, map, ℕ, ◌+◌, ◌/◌, ◌%◌, ◌≤◌, ◌<◌, eqb, ltb, length, take, drop, replicate, set, Some}
 use Rattle.std.proofs.Math.Option.{none, some}
 use Rattle.chars.specs.Lists.{all, bytes, member}
 use Rattle.chars.specs.Case.{agree, same_text}
@@ -323,10 +323,10 @@ pub record SharedTails : Type 0 where
 pub record Dates : Type 0 where
   pub to_822 : (s old : List ℕ) → EndsBuffer (10 ∷ 6 ∷ []) old (utc_to_date s old)
   pub to_x400 : (s old : List ℕ) → EndsBuffer (10 ∷ 6 ∷ []) old (date_to_utc s old)
-  pub utc_back : (d : DateTime) → is_date d ≡ true → read_utc (utc_text d) ≡ some d
-  pub date_back : (d : DateTime) → is_date d ≡ true → read_date (date_text d) ≡ some d
-  pub utc_is : (s : List ℕ) (d : DateTime) → read_utc s ≡ some d → is_date d ≡ true
-  pub date_is : (s : List ℕ) (d : DateTime) → read_date s ≡ some d → is_date d ≡ true
+  pub utc_back : (d : DateTime) → is_date d ≡ true → read_utc (utc_text d) ≡ Some d
+  pub date_back : (d : DateTime) → is_date d ≡ true → read_date (date_text d) ≡ Some d
+  pub utc_is : (s : List ℕ) (d : DateTime) → read_utc s ≡ Some d → is_date d ≡ true
+  pub date_is : (s : List ℕ) (d : DateTime) → read_date s ≡ Some d → is_date d ≡ true
 
 -- ---- the restricted encoding: "Text that does not parse as coded is taken as it stands, so only coding and then decoding gives back the start
 -- .. Refusals: 1 for a byte over 127, then 6"

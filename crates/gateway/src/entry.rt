@@ -16,29 +16,29 @@ pub use gateway_restricted::{restrict, unrestrict};
 pub use gateway_route::route;
 pub use gateway_text::read::read_record;
 pub use gateway_text::write::write_record;
-use mapping::answers::{ToAddress, ToRecord};
+use mapping::answers::{AddressRefusal, RecordRefusal};
 use mapping_to_address::to_address::record_to_address;
 use mapping_to_record::to_record::address_to_record;
 use oraddr::add::{Addition, Attribute};
 use oraddr::record::Record;
-use soundness::answers::Checked;
+use soundness::answers::CheckRefusal;
 
 // An address to a record, under a table text: 0, 1, 2, 3 or 7.
-pub fn to_record(table: &[u8], address: &[u8]) -> ToRecord
+pub fn to_record(table: &[u8], address: &[u8]) -> Result<Record, RecordRefusal>
     ensures { told_record result ≡ address_to_record table.now address.now }
 {
     address_to_record(table, address)
 }
 
 // A record to an address in a lent buffer, under a table text: 0, 4, 5, 6 or 7.
-pub fn to_address(table: &[u8], rec: Record, out: &mut [u8]) -> ToAddress
+pub fn to_address(table: &[u8], rec: Record, out: &mut [u8]) -> Result<usize, AddressRefusal>
     ensures { told_address result out.new ≡ record_to_address table.now rec out.old }
 {
     record_to_address(table, rec, out)
 }
 
 // The check of a table text: 0, 7, or 8 with a witness.
-pub fn check(table: &[u8]) -> Checked
+pub fn check(table: &[u8]) -> Result<(), CheckRefusal>
     ensures { Demand3 (loaded_from table.now) (told_check result) }
 {
     soundness_check::check::check(table)

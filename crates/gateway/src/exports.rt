@@ -1,5 +1,6 @@
 // The functions for C and for Rust without Rattle, which `gateway_c` gives their symbols. Each slice is a pointer and a length there;
 // docs/include/gateway.h says what they do.
+// `over, input, last, out` and what follows travel together as C has them.
 ghost use Rattle.std.specs.Prelude.{◌≡◌, length};
 ghost use Rattle.mailaddr.specs.Tail.{shared_tail};
 ghost use Rattle.table.specs.Lines.{loaded_from};
@@ -31,8 +32,7 @@ pub fn gateway_to_record(table: &[u8], address: &[u8], out: &mut [u8]) -> usize
 pub fn gateway_to_address(table: &[u8], record_text: &[u8], out: &mut [u8]) -> usize
     ensures { Exported (text_to_address table.now record_text.now out.old) result out.new }
 {
-    let done = read_record(record_text);
-    let rec = done.record;
+    let rec = read_record(record_text).record;
     pack_address(to_address(table, rec, out))
 }
 

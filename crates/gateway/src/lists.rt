@@ -1,5 +1,5 @@
 // The functions for C under a list: a table's rows as a lent list of structs over a text. Each lays the rows out as numbers and calls the
-// function over those; docs/include/gateway.h says what they do.
+// function over those; docs/include/gateway.h says what they do. They are alike but for the call: C has a name and a signature for each.
 ghost use Rattle.rowlist_load.specs.Listed.{listed_from};
 ghost use Rattle.mapping.specs.ToRecord.{to_record_by};
 ghost use Rattle.router.specs.Run.{Routing};

@@ -2,54 +2,58 @@
 // buffer. The functions under a table text and those under a list share this.
 #![tactic(auto)]
 
-ghost use Rattle.std.specs.Prelude.{◌≡◌, [], ◌≤◌};
+ghost use Rattle.std.specs.Prelude.{◌≡◌, [], ◌≤◌, MatchResult};
 ghost use Rattle.mapping.specs.Answers.{address_bad_line, told_address, told_record};
 ghost use Rattle.soundness.specs.Check.{told_check};
-ghost use Rattle.gateway_pack.specs.Packed.{most_count};
+ghost use Rattle.gateway_pack.specs.Packed.{most_count, packed_count};
 ghost use Rattle.gateway_export.specs.Exports.{Exported, Packable, PackableCheck, TellsCheck, packed, text_result};
 
 use gateway_pack::{NUMBER_LIMIT, pack};
 use gateway_text::write::{show, write_canonical};
-use mapping::answers::{
-    ToAddress, ToRecord, address_line, address_number, record_line, record_number,
-};
-use soundness::answers::{CheckAnswer, Checked};
+use mapping::answers::{AddressRefusal, RecordRefusal, Refusal};
+use oraddr::record::Record;
+use soundness::answers::CheckRefusal;
+
+// A refusal of either mapping: its number, and with 7 the line.
+fn pack_refusal<R: Refusal>(refusal: R) -> usize
+    requires { R.line refusal ≤ most_count }
+    ensures { result ≡ packed_count (R.number refusal) (R.line refusal) 0 }
+{
+    pack(refusal.number(), refusal.line(), 0)
+}
 
 // A result of record to address, whose text is in the buffer already.
-pub fn pack_address(done: ToAddress) -> usize
-    requires size_le_most_count { done.size ≤ most_count }
-    requires answer_bound { address_bad_line done.answer ≤ most_count }
+pub fn pack_address(done: Result<usize, AddressRefusal>) -> usize
+    requires { MatchResult done (λ n. n ≤ most_count) (λ e. address_bad_line e ≤ most_count) }
     ensures { result ≡ packed (told_address done []) }
 {
-    let answer = done.answer;
-    let number = address_number(answer);
-    pack(number, address_line(answer), done.size)
+    match done {
+        Ok(n) => pack(0, 0, n),
+        Err(refusal) => pack_refusal(refusal),
+    }
 }
 
 // A result of address to record: the record's text goes to `out`.
-pub fn pack_record(done: ToRecord, out: &mut [u8]) -> usize
+pub fn pack_record(done: Result<Record, RecordRefusal>, out: &mut [u8]) -> usize
     requires { Packable (told_record done) }
     ensures { Exported (text_result (told_record done) out.old) result out.new }
 {
-    let answer = done.answer;
-    let number = record_number(answer);
-    if number == 0 {
-        let rec = done.record;
-        return pack_address(write_canonical(rec, out));
+    match done {
+        Ok(rec) => pack_address(write_canonical(rec, out)),
+        Err(refusal) => pack_refusal(refusal),
     }
-    pack(number, record_line(answer), 0)
 }
 
 // A result of the check: a witness's text goes to `out`, if it fits.
-pub fn pack_check(done: Checked, out: &mut [u8]) -> usize
+pub fn pack_check(done: Result<(), CheckRefusal>, out: &mut [u8]) -> usize
     requires { PackableCheck (told_check done) }
     ensures { TellsCheck (told_check done) out.old result out.new }
 {
-    let answer = done.answer;
-    let rec = done.record;
-    match answer {
-        CheckAnswer::Sound => 0,
-        CheckAnswer::Unsound => 8 + NUMBER_LIMIT * show(rec, out),
-        CheckAnswer::Malformed(line) => 7 + NUMBER_LIMIT * line,
+    let Err(refusal) = done else {
+        return 0;
+    };
+    match refusal {
+        CheckRefusal::Unsound(witness) => 8 + NUMBER_LIMIT * show(witness, out),
+        CheckRefusal::Malformed(line) => 7 + NUMBER_LIMIT * line,
     }
 }

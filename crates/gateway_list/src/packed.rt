@@ -1,5 +1,7 @@
 // The same for C: a result in one value, and a text in the lent buffer. No function for C takes or returns an enum, so what is packed is
 // packed here.
+// `text, numbers, n` and the bound on them stand as `rowlist_load` asks them of its callers, and
+// `over, input, last, out` and what follows travel together as C has them.
 ghost use Rattle.std.specs.Prelude.{◌*◌, ◌≤◌, length};
 ghost use Rattle.rowlist.specs.Entries.{entries_of, entry_size};
 ghost use Rattle.rowlist_load.specs.Listed.{listed_from};
@@ -39,8 +41,7 @@ pub fn packed_to_address(
     ensures { Exported (text_to_address_by (listed_from text.now (entries_of numbers.now n)) record_text.now
         out.old) result out.new }
 {
-    let done = read_record(record_text);
-    let rec = done.record;
+    let rec = read_record(record_text).record;
     pack_address(numbers_to_address(text, numbers, n, rec, out))
 }
 

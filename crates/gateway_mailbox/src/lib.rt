@@ -8,7 +8,7 @@ ghost use Rattle.gateway_pack.specs.Packed.{ExportedText, packed_place, packed_t
 ghost use Rattle.gateway_mailbox.specs.Shows.{Shows};
 
 use gateway_pack::{pack_place, pack_text};
-use mailbox::entry::{MailboxWritten, mailbox_number, read_mailbox};
+use mailbox::entry::{MailboxFault, MailboxWritten, read_mailbox};
 use mailbox::phrase::PhrasePlace;
 
 // A header line as a mailbox, its bare address in a lent buffer: stored are the number, 0, 1, 2, 6 or 9, and the address's length, and returned is the part
@@ -16,14 +16,20 @@ use mailbox::phrase::PhrasePlace;
 pub fn mailbox<'a>(line: &'a [u8], out: &mut [u8], number: &mut usize, size: &mut usize) -> &'a [u8]
     ensures { Shows (read_mailbox line.now out.old) line.entry number.new size.new out.new result }
 {
-    let done = read_mailbox(line, out);
-    let answer = done.answer;
-    *number = mailbox_number(answer);
-    *size = done.size;
-    let phrase = done.phrase;
-    let start = phrase.start;
-    let end = start + phrase.size;
-    &line[start..end]
+    match read_mailbox(line, out) {
+        Ok(done) => {
+            *number = 0;
+            *size = done.size;
+            let start = done.phrase.start;
+            let end = start + done.phrase.size;
+            &line[start..end]
+        }
+        Err(fault) => {
+            *number = usize::from(fault);
+            *size = 0;
+            &line[..0]
+        }
+    }
 }
 
 // Where the phrase of a mailbox stands in its line, as if there were room for its address.
@@ -34,12 +40,13 @@ pub fn phrase_place(line: &[u8]) -> PhrasePlace
 }
 
 // A mailbox's result in one value.
-fn pack_mailbox(done: MailboxWritten) -> usize
+fn pack_mailbox(done: Result<MailboxWritten, MailboxFault>) -> usize
     ensures { result ≡ packed_text (told_written done []).text }
 {
-    let answer = done.answer;
-    let number = mailbox_number(answer);
-    pack_text(number, done.size)
+    match done {
+        Ok(written) => pack_text(0, written.size),
+        Err(fault) => pack_text(usize::from(fault), 0),
+    }
 }
 
 // The bare address of a header line's mailbox, in `out`.

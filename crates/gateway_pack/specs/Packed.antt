@@ -1,6 +1,6 @@
 -- What the functions for C return: a number and a count in one value, or a place.
 -- Assumes nothing.
-use Rattle.std.specs.Prelude.{◌≡◌, cond, List, ℕ, ◌+◌, ◌*◌, ◌%◌, eqb}
+use Rattle.std.specs.Prelude.{◌≡◌, cond, List, [], Result, Ok, Err, ℕ, ◌+◌, ◌*◌, ◌%◌, eqb}
 use Rattle.chars.specs.Parts.{Place}
 use Rattle.chars.specs.Write.{TextResult}
 
@@ -31,6 +31,11 @@ packed_text o = o.number + number_limit * (o.size % length_limit)
 pub record ExportedText (o : TextResult) (r : ℕ) (new : List ℕ) : Type 0 where
   pub value : r ≡ packed_text o
   pub buffer : new ≡ o.buffer
+
+-- the value that is returned for a text that was written, by its length, or for a refusal, by a number that it converts to
+abbrev pub PackedResult : {E : Type 0} → (E → ℕ → Type 0) → Result ℕ E → ℕ → Type 0
+PackedResult converts (Ok n) r = r ≡ packed_text (record { number = 0; size = n; buffer = [] })
+PackedResult converts (Err e) r = (n : ℕ) × converts e n × (r ≡ packed_text (record { number = n; size = 0; buffer = [] }))
 
 -- ---- the place of a phrase
 

@@ -1,11 +1,11 @@
 // A result in one value, as the functions for C return it, and a text in a buffer where it fits.
 #![tactic(auto)]
 
-ghost use Rattle.std.specs.Prelude.{◌≡◌, [], ◌≤◌, ◌<◌};
+ghost use Rattle.std.specs.Prelude.{◌≡◌, ◌≤◌, ◌<◌, [], IfErr, ℕ};
 ghost use Rattle.gateway_pack.specs.Filled.{filled};
-ghost use Rattle.gateway_pack.specs.Packed.{most_count, number_limit, packed_count, packed_place, packed_text, place_limit};
+ghost use Rattle.gateway_pack.specs.Packed.{PackedResult, most_count, number_limit, packed_count, packed_place, packed_text, place_limit};
 
-use chars::write::put;
+use chars::write::place;
 
 // More than any number: a count stands this many times in its value.
 pub const NUMBER_LIMIT: usize = 16;
@@ -47,12 +47,21 @@ pub fn pack_place(start: usize, size: usize) -> usize
     start * PLACE_LIMIT + size
 }
 
+// What came of writing a text, in one value: the text's length, or the refusal by its number.
+pub fn pack_result<E: Into<usize>>(done: Result<usize, E>) -> usize
+    requires { IfErr done (λ fault. (n : ℕ) → E.converts fault n → n < number_limit) }
+    ensures { PackedResult E.converts done result }
+{
+    match done {
+        Ok(size) => pack_text(0, size),
+        Err(fault) => pack_text(fault.into(), 0),
+    }
+}
+
 // A text in `out`, if it fits.
+#[tactic(auto, unfolding(crate::specs::Filled::filled, chars::specs::Write::placed_buffer))]
 pub fn fill(out: &mut [u8], s: &[u8])
     ensures { out.new ≡ filled s.now out.old }
 {
-    if out.len() < s.len() {
-        return;
-    }
-    put(out, 0, s);
+    place(out, s);
 }

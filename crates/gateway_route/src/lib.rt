@@ -1,4 +1,5 @@
 // The router, for the public face: the next part of a run of lines, under a table text.
+// `over, input, last, out` and what follows travel together as C has them.
 #![tactic(auto)]
 
 ghost use Rattle.table.specs.Lines.{loaded_from};
@@ -16,5 +17,5 @@ pub fn route(table: &[u8], over: bool, input: &[u8], last: bool, out: &mut [u8])
     let mut to_path = [0usize; ROWS_SIZE];
     let mut to_domain = [0usize; ROWS_SIZE];
     let read = router::run::open(table, &mut to_path, &mut to_domain);
-    router::run::route(table, &to_path, &to_domain, read, over, input, last, out)
+    router::run::route(&read, over, input, last, out)
 }

@@ -1,4 +1,5 @@
 // A record's text in a lent buffer.
+// That a record is canonical is asked beside it: most callers have proved it of what they made, and a type for it would be taken apart again by each reader.
 ghost use Rattle.std.specs.Prelude.{◌≡◌, true, length};
 ghost use Rattle.std.proofs.Math.Option.{some};
 ghost use Rattle.oraddr.specs.Canonical.{canonical_record};
@@ -11,7 +12,7 @@ ghost use Rattle.gateway_pack.specs.Filled.{ShownText};
 ghost use Rattle.gateway_text.specs.Texts.{text_of_record};
 
 use gateway_pack::fill;
-use mapping::answers::{AddressAnswer, ToAddress, place, refused};
+use mapping::answers::{AddressRefusal, place};
 use oraddr::record::Record;
 use oraddr_canonical::canonical::is_canonical;
 use ortext_write::write::{LONGEST_TEXT, write_text};
@@ -26,7 +27,7 @@ fn put_text(dst: &mut [u8], rec: Record) -> usize
 }
 
 // Writes the text of a canonical record to a lent buffer, if it fits.
-pub fn write_canonical(rec: Record, out: &mut [u8]) -> ToAddress
+pub fn write_canonical(rec: Record, out: &mut [u8]) -> Result<usize, AddressRefusal>
     requires { canonical_record rec ≡ true }
     ensures { told_address result out.new ≡ placed (record_text keys (view rec)) out.old }
 {
@@ -36,11 +37,11 @@ pub fn write_canonical(rec: Record, out: &mut [u8]) -> ToAddress
 }
 
 // Writes a record's text to a lent buffer: 0, 4 or 6.
-pub fn write_record(rec: Record, out: &mut [u8]) -> ToAddress
+pub fn write_record(rec: Record, out: &mut [u8]) -> Result<usize, AddressRefusal>
     ensures { told_address result out.new ≡ text_of_record rec out.old }
 {
     if !is_canonical(rec) {
-        return refused(AddressAnswer::NotCanonical);
+        return Err(AddressRefusal::NotCanonical);
     }
     write_canonical(rec, out)
 }

@@ -1,7 +1,6 @@
 -- What the answers of the code stand for.
 -- Assumes nothing.
-use Rattle.std.specs.Prelude.{◌≡◌, ℕ, ◌+◌, ◌-◌, ◌≤◌, ◌<◌, true, false, List, [], ◌∷◌, length, take, drop}
-use Rattle.std.proofs.Math.Option.{Option, none, some}
+use Rattle.std.specs.Prelude.{◌≡◌, ℕ, ◌+◌, ◌-◌, ◌≤◌, ◌<◌, true, false, List, [], ◌∷◌, length, take, drop, Option, None, Some}
 use Rattle.lexical.specs.Quoted.{Quoted, meaning_in, quoted, size_in}
 use Rattle.lexical.specs.Tokens.{Token, Word, bad, gap, special, tokens_at, word}
 use Rattle.lexical.specs.declared.token.Kind.{Kind}
@@ -10,8 +9,8 @@ use Rattle.lexical.specs.declared.token.Lexeme.{Lexeme}
 
 -- where a quoted string ends that opened before a place
 unfoldable pub quoted_end : ℕ → Option Quoted → Option ℕ
-quoted_end from none = none
-quoted_end from (some q) = some (from + q.size)
+quoted_end from None = None
+quoted_end from (Some q) = Some (from + q.size)
 
 -- the place behind white space and comments: the tokens from there on are the same, and neither stands there
 pub record Behind (s : List ℕ) (from r : ℕ) : Type 0 where
@@ -40,6 +39,9 @@ tokens_by s Bad a e = bad ∷ []
 unfoldable pub tokens_of : List ℕ → Lexeme → List Token
 unfolding tokens_by
 tokens_of s t = tokens_by s t.kind t.start t.end
+
+abbrev pub lexeme : Kind → ℕ → ℕ → Lexeme
+lexeme k a e = record { kind = k; start = a; end = e }
 
 -- what a lexeme of a kind has
 pub record Closed (s : List ℕ) (a e : ℕ) : Type 0 where

@@ -1,8 +1,7 @@
 -- RFC 822, section 3.3: comment = "(" *(ctext / quoted-pair / comment) ")"; and request 2: "A comment holds text and comments, nested at most
 -- eight deep."
 -- Assumes nothing.
-use Rattle.std.specs.Prelude.{ℕ, zero, suc, Bool, ◌&&◌, not, cond, List, [], ◌∷◌, eqb, leb, drop, get_or}
-use Rattle.std.proofs.Math.Option.{Option, none, some}
+use Rattle.std.specs.Prelude.{ℕ, zero, suc, Bool, ◌&&◌, not, cond, List, [], ◌∷◌, eqb, leb, drop, get_or, Option, None, Some}
 use Rattle.chars.specs.Lists.{bytes, first, member}
 use Rattle.mailaddr.specs.Shape.{more}
 use Rattle.lexical.specs.Space.{is_fold}
@@ -36,23 +35,23 @@ content_step x y z =
 -- this one; `skip` bytes are passed first. None where it does not close, nests deeper or has another byte.
 unfoldable pub content_by : ContentStep → ℕ → ℕ → (ℕ → ℕ → ℕ → Option ℕ) → Option ℕ
 unfolding more
-content_by Close left zero go = some 1
+content_by Close left zero go = Some 1
 content_by Close left (suc opened) go = more 1 (go zero (suc left) opened)
-content_by Open zero opened go = none
+content_by Open zero opened go = None
 content_by Open (suc left) opened go = more 1 (go zero left (suc opened))
 content_by Pair left opened go = more 1 (go 1 left opened)
 content_by Fold left opened go = more 1 (go 1 left opened)
 content_by Text left opened go = more 1 (go zero left opened)
-content_by Break left opened go = none
+content_by Break left opened go = None
 
 unfoldable pub content : ℕ → ℕ → ℕ → List ℕ → Option ℕ
 unfolding more content_step content_by
-content skip left opened [] = none
+content skip left opened [] = None
 content (suc skip) left opened (x ∷ s) = more 1 (content skip left opened s)
 content zero left opened (x ∷ s) = content_by (content_step x (get_or s 0 0) (get_or s 1 0)) left opened (λ k l o. content k l o s)
 
 -- the bytes of the comment at the front of a text, of at most so many levels
 unfoldable pub comment : ℕ → List ℕ → Option ℕ
 unfolding more content first
-comment zero s = none
-comment (suc left) s = cond (eqb (first s) 40) (more 1 (content zero left zero (drop 1 s))) none
+comment zero s = None
+comment (suc left) s = cond (eqb (first s) 40) (more 1 (content zero left zero (drop 1 s))) None

@@ -2,7 +2,7 @@
 -- byte in either, a stray `)` counts nothing)". It is counted over the raw line: comments that never close count, a quote that never closes
 -- hides the rest, and a backslash outside both takes nothing.
 -- Assumes nothing.
-use Rattle.std.specs.Prelude.{ℕ, zero, suc, max, Bool, true, false, not, cond, List, [], ◌∷◌, eqb, ltb}
+use Rattle.std.specs.Prelude.{ℕ, zero, suc, ◌-◌, max, Bool, true, false, not, cond, List, [], ◌∷◌, eqb, ltb}
 use Rattle.lexical.specs.Comment.{deepest_comment}
 use Rattle.lexical.specs.declared.nesting.Nest.{Nest}
 
@@ -30,6 +30,11 @@ unfolding nest_quoted nest_outside nest_comment
 nest_of b true d = nest_quoted b d
 nest_of b false zero = nest_outside b
 nest_of b false (suc d) = nest_comment b d
+
+-- behind a byte, of which the one before may have taken it
+unfoldable pub nest_behind : ℕ → Nest → Nest
+unfolding nest_of
+nest_behind b n = cond (ltb 0 n.skip) (nest n.quote n.depth (n.skip - 1)) (nest_of b n.quote n.depth)
 
 -- the most comments that are open at once, `skip` bytes being passed first
 unfoldable pub deepest : ℕ → Bool → ℕ → List ℕ → ℕ

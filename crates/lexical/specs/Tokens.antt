@@ -1,8 +1,7 @@
 -- RFC 822, section 3.3: a line as its tokens. White space and comments, which may stand between any two tokens and at both ends, are said here and
 -- nowhere else.
 -- Assumes nothing.
-use Rattle.std.specs.Prelude.{ℕ, zero, suc, ◌+◌, ◌-◌, Bool, true, false, cond, List, [], ◌∷◌, eqb, ltb, take, drop, get_or}
-use Rattle.std.proofs.Math.Option.{Option, none, some}
+use Rattle.std.specs.Prelude.{ℕ, zero, suc, ◌+◌, ◌-◌, Bool, true, false, cond, List, [], ◌∷◌, eqb, ltb, take, drop, get_or, Option, None, Some}
 use Rattle.chars.specs.Class.{is_atom_char}
 use Rattle.chars.specs.Lists.{bytes, member}
 use Rattle.lexical.specs.Comment.{comment, deepest_comment}
@@ -28,8 +27,8 @@ pub data Token : Type 0 where
 
 -- the bytes of the white space or the comment at the front, 0 where there is neither. A fold's space or tab is white space of its own.
 unfoldable pub comment_size : Option ℕ → ℕ
-comment_size none = 0
-comment_size (some n) = n
+comment_size None = 0
+comment_size (Some n) = n
 
 unfoldable pub gap : List ℕ → ℕ
 unfolding is_space is_fold comment comment_size

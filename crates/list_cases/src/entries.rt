@@ -28,14 +28,11 @@ fn with_digit(n: usize, b: u8) -> usize
 // The number at the front of a text, up to a byte below the digits, such as the space behind it.
 fn decimal(s: &[u8]) -> usize {
     let mut n = 0;
-    let mut i = 0;
-    while i < s.len() {
-        let b = s[i];
-        if b < b'0' {
+    for b in s {
+        if *b < b'0' {
             return n;
         }
-        n = with_digit(n, b);
-        i += 1;
+        n = with_digit(n, *b);
     }
     n
 }
@@ -79,6 +76,7 @@ pub(crate) fn read_entries(s: &[u8], at: usize, numbers: &mut [usize]) -> Entrie
 {
     let mut n = 0;
     let mut from = at;
+    // while: the place behind the entries is handed back, which lines_of does not tell
     while from < s.len() {
         if s[from] != b'E' {
             return Entries {

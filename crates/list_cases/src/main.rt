@@ -11,26 +11,21 @@
 #![tactic(auto)]
 
 mod entries;
-mod lookups;
-mod print;
 
 ghost use Rattle.std.specs.Prelude.{◌*◌, ◌<◌, ◌≤◌, length};
 ghost use Rattle.rowlist.specs.Entries.{entry_size};
 
-use cases::files::read_full;
 use cases::lines::{line, next_line};
 use cases::parts::{front, rest};
 use cases::print::Output;
 use cases::read::unhex;
+use cases::run::read_and_run;
 use entries::read_entries;
-use lookups::run_queries;
-use print::{print_malformed, print_rows};
 use rowlist::LIST_ROOM;
-use rowlist_load::load::load_entries;
+use rowlist_load::read::read_list;
 use std::io;
-use std::io::{Stdin, Stdout};
-use table::load::TableRead;
 use table::rows::ROWS_SIZE;
+use table_queries::run_lookups;
 
 // Standard input, at most; a list's text, which may be longer than a table's.
 const ROOM: usize = 2097152;
@@ -54,16 +49,8 @@ fn run_loaded(
 {
     let mut to_path = [0usize; ROWS_SIZE];
     let mut to_domain = [0usize; ROWS_SIZE];
-    match load_entries(text, numbers, n, &mut to_path, &mut to_domain) {
-        TableRead::Table(t) => {
-            print_rows(to, t.to_path, t.to_domain);
-            run_queries(to, s, at, text, &to_path, &to_domain, t)
-        }
-        TableRead::Malformed(entry) => {
-            print_malformed(to, entry);
-            at
-        }
-    }
+    let read = read_list(text, numbers, n, &mut to_path, &mut to_domain);
+    run_lookups(to, s, at, read, b"-")
 }
 
 // Reads the entries from `at` on, loads them as a list over a text, runs the look-ups that follow, and returns where the next list's text
@@ -96,21 +83,13 @@ fn run_case(to: &mut Output, s: &[u8], at: usize) -> usize
 
 fn run(to: &mut Output, s: &[u8]) {
     let mut at = 0;
+    // while: a case is so many lines as it has, and table_queries tells the place behind them, not lines_of
     while at < s.len() {
         at = run_case(to, s, at);
     }
 }
 
-// Reads standard input, and runs it.
-fn read_and_run(from: Stdin, to: Stdout, space: &mut [u8]) -> io::Result<()> {
-    let mut from = from;
-    let n = read_full(&mut from, space)?;
-    let mut to = Output::new(to);
-    run(&mut to, &space[..n]);
-    to.written()
-}
-
 fn main(rt: HostRuntime) -> io::Result<()> {
     let mut space = [0u8; ROOM];
-    read_and_run(rt.stdin(), rt.stdout(), &mut space)
+    read_and_run(rt.stdin(), rt.stdout(), &mut space, run)
 }

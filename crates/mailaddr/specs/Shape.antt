@@ -1,7 +1,7 @@
 -- Document 01, "Address to record": the accepted shape of an Internet address, unquoting, and quoting.
 -- Assumes nothing.
-use Rattle.std.specs.Prelude.{ℕ, ◌+◌, ◌-◌, Bool, true, false, ◌&&◌, ◌||◌, cond, List, [], ◌∷◌, ◌++◌, eqb, length, get_or, take, drop}
-use Rattle.std.proofs.Math.Option.{Option, none, some}
+use Rattle.std.specs.Prelude.{ℕ, ◌+◌, ◌-◌, Bool, true, false, ◌&&◌, ◌||◌, cond, List, [], ◌∷◌, ◌++◌, Option, Some, None, eqb, length, get_or, take, drop}
+use Rattle.std.proofs.Math.Option as math
 use Rattle.chars.specs.Lists.{all, first, non_empty}
 use Rattle.chars.specs.Class.{between, is_quotable}
 use Rattle.chars.specs.Parts.{is_atoms, run}
@@ -25,39 +25,39 @@ is_text b = between 32 126 b
 -- how many bytes of a quoted string stand behind its opening quote, the closing one included: "a backslash takes the next". None
 -- where it does not close, or has another byte.
 unfoldable pub more : ℕ → Option ℕ → Option ℕ
-more n none = none
-more n (some k) = some (n + k)
+more n None = None
+more n (Some k) = Some (n + k)
 
 unfoldable pub closing : List ℕ → Option ℕ
 unfolding more is_text
-closing [] = none
-closing (x ∷ []) = cond (eqb x 34) (some 1) none
+closing [] = None
+closing (x ∷ []) = cond (eqb x 34) (Some 1) None
 closing (x ∷ y ∷ s) =
-    cond (eqb x 34) (some 1)
-    (cond (eqb x 92) (cond (is_text y) (more 2 (closing s)) none)
-    (cond (is_text x) (more 1 (closing (y ∷ s))) none))
+    cond (eqb x 34) (Some 1)
+    (cond (eqb x 92) (cond (is_text y) (more 2 (closing s)) None)
+    (cond (is_text x) (more 1 (closing (y ∷ s))) None))
 
 -- the address whose local part is the first n bytes: an `@` and a domain, "atoms joined by dots", follow
-unfoldable pub with_local : Bool → ℕ → List ℕ → Option Address
+unfoldable pub with_local : Bool → ℕ → List ℕ → math.Option Address
 unfolding is_atoms
 with_local q n s =
     cond (eqb (get_or s n 0) 64 && is_atoms (drop (n + 1) s))
-    (some (record { local = take n s; is_quoted = q; domain = drop (n + 1) s }))
-    none
+    (math.some (record { local = take n s; is_quoted = q; domain = drop (n + 1) s }))
+    math.none
 
 -- "one quoted string"
-unfoldable pub quoted_shape : List ℕ → Option ℕ → Option Address
+unfoldable pub quoted_shape : List ℕ → Option ℕ → math.Option Address
 unfolding with_local
-quoted_shape s none = none
-quoted_shape s (some n) = with_local true (n + 1) s
+quoted_shape s None = math.none
+quoted_shape s (Some n) = with_local true (n + 1) s
 
 -- "RFC 822 atoms joined by single dots", which have no `@`
-unfoldable pub plain_shape : List ℕ → Option Address
+unfoldable pub plain_shape : List ℕ → math.Option Address
 unfolding with_local is_atoms run
-plain_shape s = cond (is_atoms (take (run 64 s) s)) (with_local false (run 64 s) s) none
+plain_shape s = cond (is_atoms (take (run 64 s) s)) (with_local false (run 64 s) s) math.none
 
 -- document 01: "Accepted shape"
-unfoldable pub shape_of : List ℕ → Option Address
+unfoldable pub shape_of : List ℕ → math.Option Address
 unfolding quoted_shape plain_shape closing first
 shape_of s = cond (eqb (first s) 34) (quoted_shape s (closing (drop 1 s))) (plain_shape s)
 

@@ -1,19 +1,23 @@
 // A whole address coded as the value of a DD, and decoded again.
-ghost use Rattle.std.specs.Prelude.{◌≡◌, ◌*◌, ◌≤◌, ◌<◌, length, take, drop};
+// A bound on a place is asked where it is used: it ties two parameters of one call, and a struct of the two would be made for each.
+// A buffer is lent with room for all of the text, which is asked: nothing is allocated, and whose room it is only the caller knows.
+ghost use Rattle.std.specs.Prelude.{◌≡◌, ◌*◌, ◌≤◌, ◌<◌, ◌&&◌, not, eqb, length, take, drop};
+ghost use Rattle.chars.specs.Class.{is_printable};
 ghost use Rattle.chars.specs.Write.{Wrote, front};
-ghost use Rattle.mailaddr.specs.Answers.{Decoding, Grouped, Spelt, letter_group};
-ghost use Rattle.mailaddr.specs.Code.{char_of, coded, coded_char, letter_of, longest_coded_char, numbered, too_long_to_code};
+ghost use Rattle.mailaddr.specs.Answers.{Decoding, Grouped, letter_group, unless_zero};
+ghost use Rattle.mailaddr.specs.Code.{char_of, coded, coded_char, letter_of, longest_coded_char, too_long_to_code};
 
 use chars::case::fold_case;
 use chars::class::is_printable;
-use chars::digits::{HIGHEST_NUMBER, number_at};
+use chars::digits::character_at;
 use chars::parts::byte_at;
 
-// The letter of a character that is coded by one, 0 for any other.
-fn letter_of(b: u8) -> u8
-    ensures { result ≡ letter_of b }
+// The letter of a character that is coded by one.
+#[tactic(auto, using(std::proofs::lemmas::Bool::Decides::nat_tests), unfolding(crate::specs::Code::letter_of, crate::specs::Code::index_of, chars::specs::Lists::bytes))]
+fn letter_of(b: u8) -> Option<u8>
+    ensures { result ≡ unless_zero (letter_of b) }
 {
-    match b {
+    let letter = match b {
         b'@' => b'a',
         b'%' => b'p',
         b'!' => b'b',
@@ -21,16 +25,18 @@ fn letter_of(b: u8) -> u8
         b'_' => b'u',
         b'(' => b'l',
         b')' => b'r',
-        _ => 0,
-    }
+        _ => return None,
+    };
+    Some(letter)
 }
 
-// The character that a letter stands for, 0 for any other.
-fn char_of(letter: u8) -> u8
-    ensures { result ≡ char_of letter }
+// The character that a letter stands for.
+#[tactic(auto, using(std::proofs::lemmas::Bool::Decides::nat_tests), unfolding(crate::specs::Code::char_of, crate::specs::Code::index_of, chars::specs::Lists::bytes))]
+fn char_of(letter: u8) -> Option<u8>
+    ensures { result ≡ unless_zero (char_of letter) }
 {
     let l = fold_case(letter);
-    match l {
+    let char = match l {
         b'a' => b'@',
         b'p' => b'%',
         b'b' => b'!',
@@ -38,74 +44,55 @@ fn char_of(letter: u8) -> u8
         b'u' => b'_',
         b'l' => b'(',
         b'r' => b')',
-        _ => 0,
-    }
+        _ => return None,
+    };
+    Some(char)
 }
 
-// A character as it is coded: up to five bytes.
-#[derive(Clone, Copy)]
-struct Coded {
-    len: usize,
-    bytes: [u8; 5],
-}
-
-// Three decimal digits in parentheses.
-fn numbered(b: u8) -> Coded
-    ensures { Spelt result (numbered b) }
+// Writes as much of a text as there is room for, and returns where the next would go, room or none;
+// `at` is at most what a text of `too_long_to_code` characters takes.
+fn put_some(dst: &mut [u8], at: usize, text: &[u8]) -> usize
+    requires text_bound { length text.now ≤ longest_coded_char }
+    requires at_bound { at ≤ longest_coded_char * too_long_to_code }
+    ensures { Wrote dst.old at text.now result dst.new }
 {
-    Coded {
-        len: 5,
-        bytes: [
+    for (i, b) in text.iter().enumerate() {
+        if at + i < dst.len() {
+            dst[at + i] = *b;
+        }
+    }
+    at + text.len()
+}
+
+// Whether a character that no letter codes is coded as itself: not the second and later of a run of spaces.
+fn is_itself(spaced: bool, b: u8) -> bool
+    ensures { result ≡ (is_printable b && not (spaced && eqb b 32)) }
+{
+    is_printable(b) && !(spaced && b == b' ')
+}
+
+// Writes a character, before which a space stands or not, while there is room: by its letter, as itself, or by its number.
+fn put_char(dst: &mut [u8], at: usize, spaced: bool, b: u8) -> usize
+    requires { at ≤ longest_coded_char * too_long_to_code }
+    ensures { Wrote dst.old at (coded_char spaced b) result dst.new }
+{
+    if let Some(letter) = letter_of(b) {
+        return put_some(dst, at, &[b'(', letter, b')']);
+    }
+    if is_itself(spaced, b) {
+        return put_some(dst, at, &[b]);
+    }
+    put_some(
+        dst,
+        at,
+        &[
             b'(',
             b'0' + b / 100,
             b'0' + b / 10 % 10,
             b'0' + b % 10,
             b')',
         ],
-    }
-}
-
-// A character, and whether a space stands before it.
-fn code_char(spaced: bool, b: u8) -> Coded
-    ensures { Spelt result (coded_char spaced b) }
-{
-    let letter = letter_of(b);
-    if letter != 0 {
-        return Coded {
-            len: 3,
-            bytes: [b'(', letter, b')', 0, 0],
-        };
-    }
-    if !is_printable(b) {
-        return numbered(b);
-    }
-    if spaced {
-        if b == b' ' {
-            return numbered(b);
-        }
-    }
-    Coded {
-        len: 1,
-        bytes: [b, 0, 0, 0, 0],
-    }
-}
-
-// Writes as many of the first `n` of `bytes` as there is room for, and returns where the next would go, room or none;
-// `at` is at most what a text of `too_long_to_code` characters takes.
-fn put_some(dst: &mut [u8], at: usize, bytes: [u8; 5], n: usize) -> usize
-    requires n_le_longest_coded_char { n ≤ longest_coded_char }
-    requires at_bound { at ≤ longest_coded_char * too_long_to_code }
-    ensures { Wrote dst.old at (take n bytes) result dst.new }
-{
-    let mut i = 0;
-    while i < n {
-        if dst.len() <= at + i {
-            return at + n;
-        }
-        dst[at + i] = bytes[i];
-        i += 1;
-    }
-    at + n
+    )
 }
 
 // Writes the coded form of a text to the front of `dst` while there is room, and returns its whole length.
@@ -116,90 +103,66 @@ pub fn put_coded(dst: &mut [u8], s: &[u8]) -> usize
 {
     let mut at = 0;
     let mut spaced = false;
-    let mut i = 0;
-    while i < s.len() {
-        let b = s[i];
-        let c = code_char(spaced, b);
-        let bytes = c.bytes;
-        let n = c.len;
-        at = put_some(dst, at, bytes, n);
+    for &b in s {
+        at = put_char(dst, at, spaced, b);
         spaced = b == b' ';
-        i += 1;
     }
     at
 }
 
-// A decoded text's length, or that the value does not decode.
-#[derive(Clone, Copy)]
-pub enum Decoded {
-    Length(usize),
-    Undecoded,
-}
-
-// What a group in parentheses, or another character, stands for, and how many bytes it takes; 0 of them where a parenthesis stands
-// outside a group.
+// What a group in parentheses, or another character, stands for, and how many bytes it takes.
 #[derive(Clone, Copy)]
 struct Group {
     char: u8,
     len: usize,
 }
 
-// The character of a letter and a closing parenthesis at a place, 0 where these do not stand there.
-fn letter_at(s: &[u8], at: usize) -> u8
+// The character of a letter and a closing parenthesis at a place.
+fn letter_at(s: &[u8], at: usize) -> Option<u8>
     requires { at ≤ length s.now }
-    ensures { result ≡ letter_group (drop at s.now) }
+    ensures { result ≡ unless_zero (letter_group (drop at s.now)) }
 {
     if byte_at(s, at + 1) != b')' {
-        return 0;
+        return None;
     }
     char_of(byte_at(s, at))
 }
 
-// The group at a place.
-fn group_at(s: &[u8], at: usize) -> Group
+// The group at a place; none where a parenthesis stands outside a group.
+fn group_at(s: &[u8], at: usize) -> Option<Group>
     requires { at < length s.now }
     ensures { Grouped (drop at s.now) result }
 {
-    let b = byte_at(s, at);
+    let b = s[at];
     if b == b')' {
-        return Group { char: 0, len: 0 };
+        return None;
     }
     if b != b'(' {
-        return Group { char: b, len: 1 };
+        return Some(Group { char: b, len: 1 });
     }
-    let c = letter_at(s, at + 1);
-    if c != 0 {
-        return Group { char: c, len: 3 };
+    if let Some(char) = letter_at(s, at + 1) {
+        return Some(Group { char, len: 3 });
     }
     if byte_at(s, at + 4) != b')' {
-        return Group { char: 0, len: 0 };
+        return None;
     }
-    let n = number_at(s, at + 1);
-    if HIGHEST_NUMBER < n {
-        return Group { char: 0, len: 0 };
-    }
-    Group {
-        char: n as u8,
-        len: 5,
-    }
+    let char = character_at(s, at + 1)?;
+    Some(Group { char, len: 5 })
 }
 
-// Writes the decoded text to the front of `dst`.
-pub fn decode(dst: &mut [u8], s: &[u8]) -> Decoded
+// Writes the decoded text to the front of `dst`, and returns its length; none where the value does not decode.
+pub fn decode(dst: &mut [u8], s: &[u8]) -> Option<usize>
     requires { length s.now ≤ length dst.old }
     ensures { Decoding s.now dst.old result dst.new }
 {
     let mut n = 0;
     let mut i = 0;
+    // while: a group takes one, three or five bytes, so nothing counts it
     while i < s.len() {
-        let g = group_at(s, i);
-        let len = g.len;
-        if len == 0 {
-            return Decoded::Undecoded;
-        }
-        dst[n] = g.char;
+        let group = group_at(s, i)?;
+        dst[n] = group.char;
         n += 1;
-        i += len;
+        i += group.len;
     }
-    Decoded::Length(n)
+    Some(n)
 }

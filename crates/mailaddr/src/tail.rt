@@ -20,6 +20,7 @@ fn tail_start(a: &[u8], b: &[u8]) -> usize
     let mut start = a.len();
     let mut i = a.len();
     let mut j = b.len();
+    // loop: it ends at the first parts that differ or at either front, so two places fall together
     loop {
         let p = part_start(a, i);
         let q = part_start(b, j);
@@ -27,10 +28,7 @@ fn tail_start(a: &[u8], b: &[u8]) -> usize
             return start;
         }
         start = p;
-        if p == 0 {
-            return start;
-        }
-        if q == 0 {
+        if p == 0 || q == 0 {
             return start;
         }
         i = p - 1;

@@ -1,14 +1,13 @@
 -- What the answers of the code that reads a whole mailbox stand for.
 -- Assumes nothing.
-use Rattle.std.specs.Prelude.{◌≡◌, ℕ, ◌-◌, ◌≤◌, true, false, cond, List, ltb, length, take, drop}
-use Rattle.std.proofs.Math.Option.{Option, none, some}
+use Rattle.std.specs.Prelude.{◌≡◌, ℕ, ◌-◌, ◌≤◌, cond, List, Option, None, Some, Result, Ok, Err, IfSome, IfOk, MatchResult, length, take, drop}
+use Rattle.std.proofs.Math.Option as math
 use Rattle.chars.specs.Parts.{Place}
-use Rattle.chars.specs.Write.{front}
 use Rattle.lexical.specs.Answers.{Stands, tokens_of}
 use Rattle.mailbox_address.specs.Grammar.{Mailbox, Phrase, route_addr, whole}
-use Rattle.mailbox.specs.Mailbox.{Bare, MailboxResult}
-use Rattle.mailbox.specs.declared.entry.MailboxAnswer.{MailboxAnswer}
-use Rattle.mailbox.specs.declared.entry.MailboxAnswer.TheVariants.{Done, NoMailbox, ShortBuffer, TooDeep, TooLong}
+use Rattle.mailbox.specs.Mailbox.{Bare, MailboxResult, Reading, empty_start, no_mailbox, read, reading, too_deep, too_long}
+use Rattle.mailbox.specs.declared.entry.MailboxFault.{MailboxFault}
+use Rattle.mailbox.specs.declared.entry.MailboxFault.TheVariants.{NoMailbox, ShortBuffer, TooDeep, TooLong}
 use Rattle.mailbox.specs.declared.entry.MailboxWritten.{MailboxWritten}
 use Rattle.mailbox.specs.declared.phrase.PhrasePlace.{PhrasePlace}
 use Rattle.mailbox.specs.declared.phrase.MailboxRead.{MailboxRead}
@@ -29,55 +28,59 @@ pub record ReadsPhrase (s : List ℕ) (from : ℕ) (o : Phrase) (r : PhraseRead)
 
 -- ---- a mailbox
 
-abbrev pub no_read : MailboxRead
-no_read = record { found = false; local = 0; size = 0; quoted = false; phrase = record { start = 0; size = 0 } }
-
 -- an addr-spec that is the last thing in the line
-abbrev pub whole_read : SpecRead → ℕ → ℕ → MailboxRead
+abbrev pub whole_read : SpecRead → ℕ → ℕ → Option MailboxRead
 whole_read a start size =
-    cond a.found
-    (cond (is_end_kind a.next.kind)
-    (record { found = true; local = a.local; size = a.size; quoted = a.quoted; phrase = record { start = start; size = size } })
-    no_read)
-    no_read
+    cond (is_end_kind a.next.kind)
+    (Some (record { local = a.local; size = a.size; quoted = a.quoted; phrase = record { start = start; size = size } }))
+    None
 
 -- the mailbox of a phrase from a start on and what stands behind it
-unfoldable pub named_by : ℕ → Phrase → Option Mailbox
+unfoldable pub named_by : ℕ → Phrase → math.Option Mailbox
 unfolding whole route_addr
 named_by start p = whole start (p.end - start) (route_addr p.rest)
 
 abbrev pub told_place : PhrasePlace → Place
 told_place p = record { start = p.start; size = p.size }
 
-unfoldable pub told_mailbox : MailboxRead → List ℕ → Option Bare
-told_mailbox r new =
-    cond r.found
-    (some (record { local = take r.local new; is_quoted = r.quoted; domain = drop r.local (take r.size new); phrase = told_place r.phrase }))
-    none
+-- the mailbox whose texts stand in a buffer
+abbrev pub bare_at : MailboxRead → List ℕ → Bare
+bare_at m words = record {
+  local = take m.local words;
+  is_quoted = m.quoted;
+  domain = drop m.local (take m.size words);
+  phrase = told_place m.phrase;
+}
 
-pub record ReadsMailbox (s : List ℕ) (o : Option Bare) (r : MailboxRead) (new : List ℕ) : Type 0 where
+unfoldable pub told_mailbox : Option MailboxRead → List ℕ → math.Option Bare
+told_mailbox None new = math.none
+told_mailbox (Some m) new = math.some (bare_at m new)
+
+pub record ReadsMailbox (s : List ℕ) (o : math.Option Bare) (r : Option MailboxRead) (new : List ℕ) : Type 0 where
   pub told : told_mailbox r new ≡ o
-  pub parted : r.local ≤ r.size
-  pub high : r.size ≤ length s
+  pub sizes : IfSome r (λ m. (m.local ≤ m.size) × (m.size ≤ length s))
 
--- a text that is not empty in the buffer, if it fits: its length, or 0
-pub record PlacesBare (text old : List ℕ) (r : ℕ) (new : List ℕ) : Type 0 where
-  pub size : r ≡ cond (ltb (length old) (length text)) 0 (length text)
-  pub buffer : new ≡ cond (ltb (length old) (length text)) old (front text old)
+-- ---- a line
 
--- request 2's number for each answer
-abbrev pub mailbox_number : MailboxAnswer → ℕ
-mailbox_number Done = 0
+-- the refusal of a line that is not read
+abbrev pub Refused : Reading → MailboxFault → Type 0
+Refused too_long f = f ≡ TooLong
+Refused too_deep f = f ≡ TooDeep
+Refused no_mailbox f = f ≡ NoMailbox
+Refused (read b) f = ⊥
+
+pub record ReadsLine (s : List ℕ) (r : Result MailboxRead MailboxFault) (new : List ℕ) : Type 0 where
+  pub told : MatchResult r (λ m. reading s ≡ read (bare_at m new)) (Refused (reading s))
+  pub sizes : IfOk r (λ m. (m.local ≤ m.size) × (m.size ≤ length new))
+
+-- request 2's number for each refusal
+abbrev pub mailbox_number : MailboxFault → ℕ
 mailbox_number TooLong = 2
 mailbox_number TooDeep = 9
 mailbox_number NoMailbox = 1
 mailbox_number ShortBuffer = 6
 
-abbrev pub refused_read : MailboxAnswer → MailboxWritten
-refused_read a = record { answer = a; size = 0; phrase = record { start = 0; size = 0 } }
-
-abbrev pub told_written : MailboxWritten → List ℕ → MailboxResult
-told_written r new = record {
-  text = record { number = mailbox_number r.answer; size = r.size; buffer = new };
-  phrase = told_place r.phrase;
-}
+-- what the call comes to: 0 with the address and the phrase, or a refusal's number with length 0 and the line's empty start
+abbrev pub told_written : Result MailboxWritten MailboxFault → List ℕ → MailboxResult
+told_written (Ok w) new = record { text = record { number = 0; size = w.size; buffer = new }; phrase = told_place w.phrase }
+told_written (Err f) new = record { text = record { number = mailbox_number f; size = 0; buffer = new }; phrase = empty_start }

@@ -1,15 +1,15 @@
 // The bare address in a lent buffer.
 ghost use Rattle.std.specs.Prelude.{◌≡◌, ◌++◌, ◌∷◌, [], ◌≤◌, length};
-ghost use Rattle.chars.specs.Write.{Wrote};
+ghost use Rattle.chars.specs.Write.{Wrote, placed_buffer, placed_size};
 ghost use Rattle.mailaddr.specs.Shape.{escaped};
 ghost use Rattle.lexical.specs.Tokens.{longest_line};
-ghost use Rattle.mailbox.specs.Answers.{PlacesBare};
 ghost use Rattle.mailbox.specs.Mailbox.{local_text};
 
 use chars::write::put;
 use mailaddr::shape::{needs_backslash, put_escaped};
 
 // The length of a byte with its backslash, if it needs one.
+#[tactic(auto, using(std::proofs::lemmas::Bool::Decides::nat_tests), unfolding(mailaddr::specs::Shape::escaped))]
 fn escaped_byte_size(b: u8) -> usize
     ensures { result ≡ length (escaped (b ∷ [])) }
 {
@@ -18,14 +18,11 @@ fn escaped_byte_size(b: u8) -> usize
 
 // The length of a text with a backslash before each quote and backslash.
 fn escaped_size(s: &[u8]) -> usize
-    requires { length s.now ≤ longest_line }
     ensures { result ≡ length (escaped s.now) }
 {
     let mut n = 0;
-    let mut i = 0;
-    while i < s.len() {
-        n += escaped_byte_size(s[i]);
-        i += 1;
+    for &b in s {
+        n += escaped_byte_size(b);
     }
     n
 }
@@ -65,13 +62,14 @@ fn put_bare(out: &mut [u8], local: &[u8], quoted: bool, domain: &[u8]) -> usize
     put(out, end + 1, domain)
 }
 
-// The address of a local part and a domain in the buffer, if it fits: its length, or 0.
-pub(crate) fn place_bare(out: &mut [u8], local: &[u8], quoted: bool, domain: &[u8]) -> usize
+// The address of a local part and a domain in the buffer, if it fits: its length.
+pub(crate) fn place_bare(out: &mut [u8], local: &[u8], quoted: bool, domain: &[u8]) -> Option<usize>
     requires { (length local.now ≤ longest_line) × (length domain.now ≤ longest_line) }
-    ensures { PlacesBare (local_text quoted local.now ++ 64 ∷ domain.now) out.old result out.new }
+    ensures size { result ≡ placed_size (local_text quoted local.now ++ 64 ∷ domain.now) out.old }
+    ensures buffer { out.new ≡ placed_buffer (local_text quoted local.now ++ 64 ∷ domain.now) out.old }
 {
     if out.len() < local_size(local, quoted) + 1 + domain.len() {
-        return 0;
+        return None;
     }
-    put_bare(out, local, quoted, domain)
+    Some(put_bare(out, local, quoted, domain))
 }

@@ -1,9 +1,8 @@
 -- What the answers of the code that reads an address stand for.
 -- Assumes nothing.
-use Rattle.std.specs.Prelude.{◌≡◌, ℕ, ◌+◌, ◌-◌, ◌≤◌, Bool, true, false, ◌||◌, not, cond, List, [], ◌++◌, eqb, take, drop}
-use Rattle.std.proofs.Math.Option.{Option, none, some}
-use Rattle.chars.specs.Write.{Wrote}
-use Rattle.lexical.specs.Answers.{Lexed, Stands, tokens_of}
+use Rattle.std.specs.Prelude.{◌≡◌, ℕ, ◌+◌, ◌-◌, ◌≤◌, Bool, true, false, ◌||◌, cond, List, [], ◌++◌, Option, None, Some, IfSome, eqb, take, drop}
+use Rattle.std.proofs.Math.Option as math
+use Rattle.lexical.specs.Answers.{Stands, tokens_of}
 use Rattle.lexical.specs.Quoted.{meaning_in, quoted}
 use Rattle.lexical.specs.Tokens.{Token}
 use Rattle.lexical.specs.declared.token.Kind.{Kind}
@@ -12,10 +11,8 @@ use Rattle.lexical.specs.declared.token.Lexeme.{Lexeme}
 use Rattle.mailbox_address.specs.Grammar.{AddrSpec, Dotted, any_quoted, behind_sub_domain, element, meaning_of, route, sub_domain}
 use Rattle.mailbox_address.specs.declared.read.DottedRead.{DottedRead}
 use Rattle.mailbox_address.specs.declared.read.SpecRead.{SpecRead}
-use Rattle.mailbox_address.specs.declared.read.WordPut.{WordPut}
-use Rattle.mailbox_address.specs.declared.route.RouteRead.{RouteRead}
 use Rattle.mailbox_address.specs.declared.route.RouteState.{RouteState}
-use Rattle.mailbox_address.specs.declared.route.RouteState.TheVariants.{Behind, Broken, Element, Over, Start, SubDomain}
+use Rattle.mailbox_address.specs.declared.route.RouteState.TheVariants.{Behind, Element, Over, Start, SubDomain}
 
 -- ---- kinds of lexemes
 
@@ -67,11 +64,6 @@ unfoldable pub meaning_at : List ℕ → Lexeme → List ℕ
 unfolding meaning_by
 meaning_at s t = meaning_by s t.kind t.start t.end
 
--- a word written, and the lexeme behind it
-pub record PutNext (s : List ℕ) (t : Lexeme) (at : ℕ) (old : List ℕ) (r : WordPut) (new : List ℕ) : Type 0 where
-  pub wrote : Wrote old at (meaning_at s t) r.size new
-  pub lexed : Lexed s t.end r.next
-
 -- ---- words joined by dots
 
 -- their text behind what is there already, whether one of them or of those is quoted, and the tokens behind
@@ -80,20 +72,20 @@ pub record DottedText : Type 0 where
   pub is_quoted : Bool
   pub rest : List Token
 
-unfoldable pub after : List ℕ → Bool → Option Dotted → Option DottedText
+unfoldable pub after : List ℕ → Bool → math.Option Dotted → math.Option DottedText
 unfolding meaning_of any_quoted
-after sofar q none = none
-after sofar q (some d) = some (record { text = sofar ++ meaning_of d.words; is_quoted = q || any_quoted d.words; rest = d.rest })
+after sofar q math.none = math.none
+after sofar q (math.some d) = math.some (record { text = sofar ++ meaning_of d.words; is_quoted = q || any_quoted d.words; rest = d.rest })
 
-unfoldable pub told_dotted : List ℕ → DottedRead → List ℕ → Option DottedText
+unfoldable pub told_dotted : List ℕ → Option DottedRead → List ℕ → math.Option DottedText
 unfolding tokens_of
-told_dotted s r new =
-    cond r.found (some (record { text = take r.size new; is_quoted = r.quoted; rest = tokens_of s r.next })) none
+told_dotted s None new = math.none
+told_dotted s (Some r) new = math.some (record { text = take r.size new; is_quoted = r.quoted; rest = tokens_of s r.next })
 
-pub record ReadsDotted (s : List ℕ) (o : Option DottedText) (r : DottedRead) (new : List ℕ) : Type 0 where
+pub record ReadsDotted (s : List ℕ) (o : math.Option DottedText) (r : Option DottedRead) (new : List ℕ) : Type 0 where
   pub told : told_dotted s r new ≡ o
-  pub stands : Stands s r.next
-  pub low : r.size ≤ r.next.start
+  pub stands : IfSome r (λ d. Stands s d.next)
+  pub low : IfSome r (λ d. d.size ≤ d.next.start)
 
 -- ---- an addr-spec
 
@@ -103,51 +95,44 @@ pub record SpecText : Type 0 where
   pub domain : List ℕ
   pub rest : List Token
 
-unfoldable pub spec_text : Option AddrSpec → Option SpecText
+unfoldable pub spec_text : math.Option AddrSpec → math.Option SpecText
 unfolding meaning_of any_quoted
-spec_text none = none
-spec_text (some a) = some (record { local = meaning_of a.local; is_quoted = any_quoted a.local; domain = meaning_of a.domain'; rest = a.rest })
+spec_text math.none = math.none
+spec_text (math.some a) = math.some (record { local = meaning_of a.local; is_quoted = any_quoted a.local; domain = meaning_of a.domain'; rest = a.rest })
 
 -- a local part's text with the domain behind it
-unfoldable pub domain_text : List ℕ → Bool → Option Dotted → Option SpecText
+unfoldable pub domain_text : List ℕ → Bool → math.Option Dotted → math.Option SpecText
 unfolding meaning_of
-domain_text x q none = none
-domain_text x q (some d) = some (record { local = x; is_quoted = q; domain = meaning_of d.words; rest = d.rest })
+domain_text x q math.none = math.none
+domain_text x q (math.some d) = math.some (record { local = x; is_quoted = q; domain = meaning_of d.words; rest = d.rest })
 
-abbrev pub no_spec : Lexeme → SpecRead
-no_spec t = record { found = false; local = 0; size = 0; quoted = false; next = t }
-
-unfoldable pub told_spec : List ℕ → SpecRead → List ℕ → Option SpecText
+unfoldable pub told_spec : List ℕ → Option SpecRead → List ℕ → math.Option SpecText
 unfolding tokens_of
-told_spec s r new =
-    cond r.found
-    (some (record { local = take r.local new; is_quoted = r.quoted; domain = drop r.local (take r.size new); rest = tokens_of s r.next }))
-    none
+told_spec s None new = math.none
+told_spec s (Some r) new =
+    math.some (record { local = take r.local new; is_quoted = r.quoted; domain = drop r.local (take r.size new); rest = tokens_of s r.next })
 
-pub record ReadsSpec (s : List ℕ) (o : Option SpecText) (r : SpecRead) (new : List ℕ) : Type 0 where
+pub record ReadsSpec (s : List ℕ) (o : math.Option SpecText) (r : Option SpecRead) (new : List ℕ) : Type 0 where
   pub told : told_spec s r new ≡ o
-  pub stands : Stands s r.next
-  pub low : r.size ≤ r.next.start
-  pub parted : r.local ≤ r.size
+  pub stands : IfSome r (λ a. Stands s a.next)
+  pub low : IfSome r (λ a. a.size ≤ a.next.start)
+  pub parted : IfSome r (λ a. a.local ≤ a.size)
 
 -- ---- a route
 
-unfoldable pub route_by : RouteState → List Token → Option (List Token)
+unfoldable pub route_by : RouteState → List Token → math.Option (List Token)
 unfolding route
 route_by Start ts = route (element false) ts
 route_by Element ts = route (element true) ts
 route_by SubDomain ts = route sub_domain ts
 route_by Behind ts = route behind_sub_domain ts
-route_by Over ts = some ts
-route_by Broken ts = none
+route_by Over ts = math.some ts
 
-abbrev pub is_broken : RouteState → Bool
-is_broken Start = false
-is_broken Element = false
-is_broken SubDomain = false
-is_broken Behind = false
-is_broken Over = false
-is_broken Broken = true
+-- the same where it may go on no further
+unfoldable pub route_on : Option RouteState → List Token → math.Option (List Token)
+unfolding route_by
+route_on None ts = math.none
+route_on (Some p) ts = route_by p ts
 
 abbrev pub is_over : RouteState → Bool
 is_over Start = false
@@ -155,45 +140,40 @@ is_over Element = false
 is_over SubDomain = false
 is_over Behind = false
 is_over Over = true
-is_over Broken = false
 
--- the route goes on
-abbrev pub is_live : RouteState → Bool
-is_live p = not (is_broken p || is_over p)
+abbrev pub element_step : ℕ → Bool → Option RouteState
+element_step b seen =
+    cond (eqb b 64) (Some SubDomain) (cond (eqb b 44) (Some (cond seen Element Start)) (cond (eqb b 58) (cond seen (Some Over) None) None))
 
-abbrev pub element_step : ℕ → Bool → RouteState
-element_step b seen = cond (eqb b 64) SubDomain (cond (eqb b 44) (cond seen Element Start) (cond (eqb b 58) (cond seen Over Broken) Broken))
+abbrev pub behind_step : ℕ → Option RouteState
+behind_step b = cond (eqb b 46) (Some SubDomain) (cond (eqb b 44) (Some Element) (cond (eqb b 58) (Some Over) None))
 
-abbrev pub behind_step : ℕ → RouteState
-behind_step b = cond (eqb b 46) SubDomain (cond (eqb b 44) Element (cond (eqb b 58) Over Broken))
-
-abbrev pub special_step : RouteState → ℕ → RouteState
+abbrev pub special_step : RouteState → ℕ → Option RouteState
 special_step Start b = element_step b false
 special_step Element b = element_step b true
-special_step SubDomain b = Broken
+special_step SubDomain b = None
 special_step Behind b = behind_step b
-special_step Over b = Broken
-special_step Broken b = Broken
+special_step Over b = None
 
-abbrev pub atom_step : RouteState → RouteState
-atom_step Start = Broken
-atom_step Element = Broken
-atom_step SubDomain = Behind
-atom_step Behind = Broken
-atom_step Over = Broken
-atom_step Broken = Broken
+abbrev pub atom_step : RouteState → Option RouteState
+atom_step Start = None
+atom_step Element = None
+atom_step SubDomain = Some Behind
+atom_step Behind = None
+atom_step Over = None
 
-abbrev pub route_step : RouteState → Kind → RouteState
+abbrev pub route_step : RouteState → Kind → Option RouteState
 route_step p Atom = atom_step p
-route_step p Quoted = Broken
+route_step p Quoted = None
 route_step p (Special b) = special_step p b
-route_step p End = Broken
-route_step p Bad = Broken
+route_step p End = None
+route_step p Bad = None
 
-unfoldable pub told_route : List ℕ → RouteRead → Option (List Token)
+unfoldable pub told_route : List ℕ → Option Lexeme → math.Option (List Token)
 unfolding tokens_of
-told_route s r = cond r.found (some (tokens_of s r.next)) none
+told_route s None = math.none
+told_route s (Some t) = math.some (tokens_of s t)
 
-pub record ReadsRoute (s : List ℕ) (o : Option (List Token)) (r : RouteRead) : Type 0 where
+pub record ReadsRoute (s : List ℕ) (o : math.Option (List Token)) (r : Option Lexeme) : Type 0 where
   pub told : told_route s r ≡ o
-  pub stands : Stands s r.next
+  pub stands : IfSome r (Stands s)

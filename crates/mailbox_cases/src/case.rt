@@ -1,13 +1,17 @@
 // One case: a line read as a mailbox, in a buffer of a length.
+// `n ≤ 9999` is what four digits spell.
 ghost use Rattle.std.specs.Prelude.{◌≤◌};
 
 use cases::print::{FILLED, Output, say, say_number, say_written};
 use cases::read::{LARGEST, number, unhex};
-use mailbox::entry::{MailboxWritten, mailbox_number, phrase_place, read_mailbox};
+use mailbox::entry::{MailboxFault, MailboxWritten, phrase_place, read_mailbox};
 use mailbox::phrase::PhrasePlace;
 
 // Room for the longest line: one that is longer than a mailbox's may be is a case too.
 const LINE: usize = 4200;
+
+// Where a refused line's phrase is told to stand: at the line's start.
+const EMPTY_START: PhrasePlace = PhrasePlace { start: 0, size: 0 };
 
 // Where a phrase stands.
 fn print_place(to: &mut Output, place: PhrasePlace) {
@@ -17,10 +21,17 @@ fn print_place(to: &mut Output, place: PhrasePlace) {
     say_number(to, place.size);
 }
 
-fn print_read(to: &mut Output, done: MailboxWritten, out: &[u8]) {
-    let answer = done.answer;
-    say_written(to, mailbox_number(answer), done.size, out);
-    print_place(to, done.phrase);
+fn print_read(to: &mut Output, done: Result<MailboxWritten, MailboxFault>, out: &[u8]) {
+    match done {
+        Ok(written) => {
+            say_written(to, 0, written.size, out);
+            print_place(to, written.phrase);
+        }
+        Err(fault) => {
+            say_written(to, usize::from(fault), 0, out);
+            print_place(to, EMPTY_START);
+        }
+    }
 }
 
 fn run_into(to: &mut Output, line: &[u8], out: &mut [u8]) {

@@ -1,76 +1,73 @@
 -- What the answers of the code stand for: "a definition gives this paper's number and values for each case of the enum".
 -- Assumes nothing.
-use Rattle.std.specs.Prelude.{◌≡◌, Bool, false, cond, List, [], ℕ, ◌+◌, ◌≤◌, length, take, drop}
+use Rattle.std.specs.Prelude.{◌≡◌, Bool, false, cond, List, [], ℕ, ◌+◌, ◌≤◌, length, take, drop, Some, None, Result, Ok, Err}
+use Rattle.std.specs.Prelude as code
 use Rattle.std.proofs.Math.Option.{Option, none, some}
 use Rattle.chars.specs.Write.{Wrote}
 use Rattle.ortext_read.specs.Apply as apply
 use Rattle.oraddr.specs.Attributes.{Attributes, levels}
 use Rattle.oraddr.specs.Canonical.{canonical_record}
+use Rattle.oraddr.specs.View.{empty_record}
 use Rattle.ortext_read.specs.Apply.{again, read, read_local, refused, unread}
 use Rattle.ortext_segments.specs.Keys.{keys}
 use Rattle.oraddr.specs.declared.record.Record.{Record}
 use Rattle.ortext_write.specs.Write.{local_text, longest_text, remaining}
-use Rattle.mailaddr.specs.Answers.{address_at, shaped}
+use Rattle.mailaddr.specs.Answers.{address_at}
 use Rattle.mailaddr.specs.Domain.{is_domain}
 use Rattle.mailaddr.specs.Shape.{Address, address_text, is_readable}
 use Rattle.mailaddr.specs.declared.shape.Parted.{Parted}
 use Rattle.table.specs.Lines.{longest_gateway_domain}
 use Rattle.table.specs.Table.{Table, Token}
-use Rattle.table.specs.Rows.{RowInside, between, row_at, rows_at}
-use Rattle.table.specs.declared.line as line
+use Rattle.table.specs.Rows.{row_at, rows_at}
 use Rattle.table.specs.declared.load as load
 use Rattle.mapping.specs.Carried.{result_of}
 use Rattle.mapping.specs.Results.{AddressResult, RecordResult}
-use Rattle.mapping.specs.ToAddress.{Plan, extended, plan, plan_under}
+use Rattle.mapping.specs.ToAddress.{Plan, extended}
 use Rattle.mapping.specs.ToRecord.{record_by}
-use Rattle.mapping.specs.declared.answers.Written.{Written}
-use Rattle.mapping.specs.declared.answers.Written.TheVariants.{Length, NoAddress}
-use Rattle.mapping.specs.declared.answers.RecordAnswer.{RecordAnswer}
-use Rattle.mapping.specs.declared.answers.RecordAnswer.TheVariants as record-answer
-use Rattle.mapping.specs.declared.answers.ToRecord.{ToRecord}
-use Rattle.mapping.specs.declared.answers.AddressAnswer.{AddressAnswer}
-use Rattle.mapping.specs.declared.answers.AddressAnswer.TheVariants as address-answer
-use Rattle.mapping.specs.declared.answers.Route.{Route}
-use Rattle.mapping.specs.declared.answers.ToAddress.{ToAddress}
-use Rattle.oraddr.specs.Bounds.{level_count}
+use Rattle.mapping.specs.declared.answers.RecordRefusal.{RecordRefusal}
+use Rattle.mapping.specs.declared.answers.RecordRefusal.TheVariants as record-refusal
+use Rattle.mapping.specs.declared.answers.RecordRefusal.TheVariants.{NoShape, TooLong, TooLongCoded}
+use Rattle.mapping.specs.declared.answers.AddressRefusal.{AddressRefusal}
+use Rattle.mapping.specs.declared.answers.AddressRefusal.TheVariants as address-refusal
+use Rattle.mapping.specs.declared.answers.AddressRefusal.TheVariants.{NotCanonical, NoAddress, ShortBuffer}
+use Rattle.mapping.specs.declared.route.Route.{Route}
 
--- document 01's number for each answer of address to record, and the line
-unfoldable pub record_number : RecordAnswer → ℕ
-record_number record-answer.Done = 0
-record_number record-answer.NoShape = 1
-record_number record-answer.TooLong = 2
-record_number record-answer.TooLongCoded = 3
-record_number (record-answer.Malformed l) = 7
+-- document 01's number for each refusal of address to record, and with 7 the line
+unfoldable pub record_number : RecordRefusal → ℕ
+record_number NoShape = 1
+record_number TooLong = 2
+record_number TooLongCoded = 3
+record_number (record-refusal.Malformed l) = 7
 
-unfoldable pub record_bad_line : RecordAnswer → ℕ
-record_bad_line record-answer.Done = 0
-record_bad_line record-answer.NoShape = 0
-record_bad_line record-answer.TooLong = 0
-record_bad_line record-answer.TooLongCoded = 0
-record_bad_line (record-answer.Malformed l) = l
+unfoldable pub record_bad_line : RecordRefusal → ℕ
+record_bad_line NoShape = 0
+record_bad_line TooLong = 0
+record_bad_line TooLongCoded = 0
+record_bad_line (record-refusal.Malformed l) = l
 
-unfoldable pub told_record : ToRecord → RecordResult
+-- what address to record comes to: "done" has the record, a refusal an empty one
+unfoldable pub told_record : Result Record RecordRefusal → RecordResult
 unfolding record_number record_bad_line
-told_record r = record { number = record_number r.answer; line = record_bad_line r.answer; record' = r.«record» }
+told_record (Ok r) = record { number = 0; line = 0; record' = r }
+told_record (Err e) = record { number = record_number e; line = record_bad_line e; record' = empty_record }
 
--- the same of record to address, with what the buffer holds
-unfoldable pub address_number : AddressAnswer → ℕ
-address_number address-answer.Done = 0
-address_number address-answer.NotCanonical = 4
-address_number address-answer.NoAddress = 5
-address_number address-answer.ShortBuffer = 6
-address_number (address-answer.Malformed l) = 7
+-- the same of record to address, with what the buffer holds: "done" has the text's length, a refusal 0
+unfoldable pub address_number : AddressRefusal → ℕ
+address_number NotCanonical = 4
+address_number NoAddress = 5
+address_number ShortBuffer = 6
+address_number (address-refusal.Malformed l) = 7
 
-unfoldable pub address_bad_line : AddressAnswer → ℕ
-address_bad_line address-answer.Done = 0
-address_bad_line address-answer.NotCanonical = 0
-address_bad_line address-answer.NoAddress = 0
-address_bad_line address-answer.ShortBuffer = 0
-address_bad_line (address-answer.Malformed l) = l
+unfoldable pub address_bad_line : AddressRefusal → ℕ
+address_bad_line NotCanonical = 0
+address_bad_line NoAddress = 0
+address_bad_line ShortBuffer = 0
+address_bad_line (address-refusal.Malformed l) = l
 
-unfoldable pub told_address : ToAddress → List ℕ → AddressResult
+unfoldable pub told_address : Result ℕ AddressRefusal → List ℕ → AddressResult
 unfolding address_number address_bad_line
-told_address r new = record { number = address_number r.answer; line = address_bad_line r.answer; size = r.size; buffer = new }
+told_address (Ok n) new = record { number = 0; line = 0; size = n; buffer = new }
+told_address (Err e) new = record { number = address_number e; line = address_bad_line e; size = 0; buffer = new }
 
 -- ---- on the way
 
@@ -101,7 +98,7 @@ is_good (read r) = canonical_record r
 
 -- the record of an address that was parted
 abbrev pub record_parted : Table → List ℕ → Parted → RecordResult
-record_parted t s p = record_by t s (shaped (address_at s p))
+record_parted t s p = record_by t s (Ok (address_at s p))
 
 -- Room for any local part, and for any address: a local part in quotes, its `@` and the longest domain. A level that goes in front of a row's domain
 -- takes no more there than it would in the local part.
@@ -118,26 +115,16 @@ pub record Fronted (o : Option (List ℕ)) (old : List ℕ) (n : ℕ) (new : Lis
   pub wrote : Wrote old 0 (take n new) n new
 
 -- A text written to the front of a buffer; where there is none, the buffer is as before.
-abbrev pub Writing : Option (List ℕ) → List ℕ → Written → List ℕ → Type 0
-Writing o old (Length n) new = Fronted o old n new
-Writing o old NoAddress new = (o ≡ none) × (new ≡ old)
+abbrev pub Writing : Option (List ℕ) → List ℕ → code.Option ℕ → List ℕ → Type 0
+Writing o old (Some n) new = Fronted o old n new
+Writing o old None new = (o ≡ none) × (new ≡ old)
 
--- A route is the plan of a record with these levels: its row's domain, with the levels behind the first `own` in front.
-pub record Routed (s : List ℕ) (ls : List Token) (p : Plan) (r : Route) : Type 0 where
+-- A route is the plan of a record with these levels: its domain, with the levels behind the first `own` in front.
+pub record Routed (ls : List Token) (p : Plan) (r : Route) : Type 0 where
   pub from : p.from ≡ r.own + r.more
-  pub domain : p.domain ≡ extended (between s r.row.domain r.row.domain_end) (take r.more (drop r.own ls))
-  pub inside : RowInside s r.row
-  pub few : r.own + r.more ≤ level_count
-
--- the route under a row, and under a table
-abbrev pub RoutedUnder : List ℕ → line.Row.Row → List Token → Route → Type 0
-RoutedUnder s row ls r = Routed s ls (plan_under (row_at s row) ls) r
-
-abbrev pub RoutedBy : List ℕ → Table → List Token → Route → Type 0
-RoutedBy s t ls r = Routed s ls (plan t ls) r
+  pub domain : p.domain ≡ extended r.domain.now (take r.more (drop r.own ls))
 
 -- the address of a record that goes out by a route
-abbrev pub routed_text : List ℕ → Route → Attributes → List ℕ
-routed_text s r a =
-    address_text (local_text keys (remaining (r.own + r.more) a))
-    (extended (between s r.row.domain r.row.domain_end) (take r.more (drop r.own (levels a))))
+abbrev pub routed_text : Route → Attributes → List ℕ
+routed_text r a =
+    address_text (local_text keys (remaining (r.own + r.more) a)) (extended r.domain.now (take r.more (drop r.own (levels a))))

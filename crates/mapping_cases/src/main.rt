@@ -14,26 +14,14 @@ mod print;
 mod records;
 mod run;
 
-use cases::files::read_full;
-use cases::print::Output;
+use cases::run::read_and_run;
 use run::run;
 use std::io;
-use std::io::{Stdin, Stdout};
-use std::rt::Files;
 
 // Standard input, at most.
 const ROOM: usize = 2097152;
 
-// Reads standard input, and runs it.
-fn read_and_run(rt: &impl Files, from: Stdin, to: Stdout, space: &mut [u8]) -> io::Result<()> {
-    let mut from = from;
-    let n = read_full(&mut from, space)?;
-    let mut to = Output::new(to);
-    run(rt, &mut to, &space[..n]);
-    to.written()
-}
-
 fn main(rt: HostRuntime) -> io::Result<()> {
     let mut space = [0u8; ROOM];
-    read_and_run(&rt, rt.stdin(), rt.stdout(), &mut space)
+    read_and_run(rt.stdin(), rt.stdout(), &mut space, |to, s| run(&rt, to, s))
 }

@@ -3,94 +3,81 @@
 //   the count of units, or of DDs, that it leaves, in four digits
 //   its length in four digits, and what stands at the front of its room; of a DD the type so, its room full, and then the value
 // The number 9999 stands for the largest length or count there is.
-ghost use Rattle.std.specs.Prelude.{◌≤◌, length};
 
 use cases::parts::{front, rest};
 use cases::read::{LARGEST, number};
-use oraddr::bounds::{DD_TYPE_ROOM, DD_VALUE_ROOM, MOST, OU_ROOM, SINGLES, VALUE_ROOM};
+use oraddr::bounds::{DD_TYPE_ROOM, MOST, SINGLES};
 use oraddr::record::{Dds, Record, Singles, Units};
-use oraddr::value::{DdType, DdValue, DomainDefined, OrgUnit, Value};
+use oraddr::value::{DomainDefined, Text};
 
 // The length or the count that four digits stand for.
 fn size(s: &[u8]) -> usize {
-    let n = number(s);
-    if n == LARGEST {
-        return 0xffff_ffff_ffff_ffff;
+    match number(s) {
+        LARGEST => usize::MAX,
+        n => n,
     }
-    n
 }
 
-// What stands behind four digits, as much of it as there is room for.
-fn text_of(s: &[u8], room: usize) -> &[u8]
-    ensures { length result.now ≤ room }
-{
-    front(rest(s, 4), room)
+// The text behind four digits, as much of it as there is room for, of the length that they tell.
+fn text_of<const N: usize>(s: &[u8]) -> Text<N> {
+    let mut text = Text::of(front(rest(s, 4), N));
+    text.len = size(s);
+    text
 }
 
-fn with_value(old: Singles, k: usize, s: &[u8]) -> Singles {
-    let mut next = old;
+fn with_value(mut singles: Singles, k: usize, s: &[u8]) -> Singles {
     if k < SINGLES {
-        let mut value = Value::of(text_of(s, VALUE_ROOM));
-        value.len = size(s);
-        next.values[k] = value;
+        singles.values[k] = text_of(s);
     }
-    next
+    singles
 }
 
-fn with_unit(old: Units, k: usize, count: usize, s: &[u8]) -> Units {
-    let mut next = old;
-    next.count = count;
+fn with_unit(mut units: Units, k: usize, count: usize, s: &[u8]) -> Units {
+    units.count = count;
     if k < MOST {
-        let mut name = OrgUnit::of(text_of(s, OU_ROOM));
-        name.len = size(s);
-        next.names[k] = name;
+        units.names[k] = text_of(s);
     }
-    next
+    units
 }
 
 fn dd(s: &[u8]) -> DomainDefined {
-    let mut kind = DdType::of(text_of(s, DD_TYPE_ROOM));
-    kind.len = size(s);
-    let t = rest(s, 4 + DD_TYPE_ROOM);
-    let mut value = DdValue::of(text_of(t, DD_VALUE_ROOM));
-    value.len = size(t);
-    DomainDefined { kind, value }
-}
-
-fn with_dd(old: Dds, k: usize, count: usize, s: &[u8]) -> Dds {
-    let mut next = old;
-    next.count = count;
-    if k < MOST {
-        next.items[k] = dd(s);
+    DomainDefined {
+        kind: text_of(s),
+        value: text_of(rest(s, 4 + DD_TYPE_ROOM)),
     }
-    next
 }
 
-fn with_part(rec: Record, s: &[u8]) -> Record {
+fn with_dd(mut dds: Dds, k: usize, count: usize, s: &[u8]) -> Dds {
+    dds.count = count;
+    if k < MOST {
+        dds.items[k] = dd(s);
+    }
+    dds
+}
+
+fn with_part(mut rec: Record, s: &[u8]) -> Record {
     let k = number(s);
     let count = size(rest(s, 4));
     let text = rest(s, 8);
-    let mut next = rec;
     if k < SINGLES {
-        next.singles = with_value(rec.singles, k, text);
-        return next;
+        rec.singles = with_value(rec.singles, k, text);
+    } else if k < SINGLES + MOST {
+        rec.units = with_unit(rec.units, k - SINGLES, count, text);
+    } else {
+        rec.dds = with_dd(rec.dds, k - SINGLES - MOST, count, text);
     }
-    if k < SINGLES + MOST {
-        next.units = with_unit(rec.units, k - SINGLES, count, text);
-        return next;
-    }
-    next.dds = with_dd(rec.dds, k - SINGLES - MOST, count, text);
-    next
+    rec
 }
 
 // The record of the parts in a text, in front of each its length in four digits.
 pub(crate) fn filled(s: &[u8]) -> Record {
     let mut rec = Record::empty();
-    let mut at = 0;
-    while at < s.len() {
-        let n = number(rest(s, at));
-        rec = with_part(rec, front(rest(s, at + 4), n));
-        at += 4 + n;
+    let mut left = s;
+    // while: a part is as long as its four digits say, so nothing counts it
+    while !left.is_empty() {
+        let n = number(left);
+        rec = with_part(rec, front(rest(left, 4), n));
+        left = rest(left, 4 + n);
     }
     rec
 }

@@ -1,10 +1,11 @@
 // The commands.
-ghost use Rattle.std.specs.Prelude.{◌<◌, ◌≤◌, length};
+// `to, table, tag, s` travel together for one line, and `n ≤ 9999` is what four digits spell.
+ghost use Rattle.std.specs.Prelude.{◌≤◌};
 
 use crate::print::{print_to_address, print_to_record};
 use crate::records::filled;
 use cases::files::read_file;
-use cases::lines::{line, next_line};
+use cases::lines::lines_of;
 use cases::parts::{front, rest};
 use cases::print::{FILLED, Output, say};
 use cases::read::{LARGEST, number, unhex};
@@ -22,10 +23,10 @@ const LINE_ROOM: usize = 8192;
 // A record text's record; one that does not read is not canonical, as the empty record is not.
 fn record_of(tag: u8, s: &[u8]) -> Record {
     if tag == b'R' {
-        return filled(s);
+        filled(s)
+    } else {
+        read_text(Record::empty(), 0, s).unwrap_or(Record::empty())
     }
-    let reading = read_text(Record::empty(), 0, s);
-    reading.record
 }
 
 // A record to an address, in a buffer.
@@ -45,59 +46,35 @@ fn run_record(to: &mut Output, table: &[u8], tag: u8, s: &[u8], n: usize)
 fn run_case(to: &mut Output, table: &[u8], tag: u8, s: &[u8]) {
     if tag == b'A' {
         print_to_record(to, address_to_record(table, s));
-        return;
+    } else {
+        run_record(to, table, tag, rest(s, 4), number(s));
     }
-    run_record(to, table, tag, rest(s, 4), number(s));
 }
 
 // One line under a table.
-fn run_line(to: &mut Output, table: &[u8], case: &[u8]) {
-    if case.len() == 0 {
+fn run_line(to: &mut Output, table: &[u8], line: &[u8]) {
+    let Some(&tag) = line.first() else {
         return;
-    }
+    };
     let mut bytes = [0u8; LINE_ROOM];
-    let n = unhex(&mut bytes, rest(case, 2));
-    run_case(to, table, case[0], &bytes[..n]);
+    let n = unhex(&mut bytes, rest(line, 2));
+    run_case(to, table, tag, &bytes[..n]);
     say(to, b"\n");
 }
 
-// Runs the lines from `at` on up to the next table's, and returns where that starts.
-fn run_lines(to: &mut Output, s: &[u8], at: usize, table: &[u8]) -> usize
-    ensures { at ≤ result }
-{
-    let mut next = at;
-    while next < s.len() {
-        if s[next] == b'T' {
-            return next;
+// Reads each table that a line names into the room for it, and runs the lines behind that one under it. The first line names a table,
+// whatever its tag.
+fn run_lines(rt: &impl Files, to: &mut Output, s: &[u8], space: &mut [u8]) {
+    let mut size = None;
+    for line in lines_of(s) {
+        match size {
+            Some(n) if !line.starts_with(b"T") => run_line(to, front(space, n), line),
+            _ => size = Some(read_file(rt, rest(line, 2), space)),
         }
-        run_line(to, table, line(s, next));
-        next = next_line(s, next);
     }
-    next
-}
-
-// Reads the table that the line at `at` names into the room for it, runs the lines that follow it, and returns where the next table's line
-// starts.
-fn run_read(rt: &impl Files, to: &mut Output, s: &[u8], at: usize, space: &mut [u8]) -> usize
-    requires { at < length s.now }
-    ensures { at < result }
-{
-    let n = read_file(rt, rest(line(s, at), 2), space);
-    run_lines(to, s, next_line(s, at), front(space, n))
-}
-
-// Runs the table that the line at `at` names, and returns where the next table's line starts.
-fn run_table(rt: &impl Files, to: &mut Output, s: &[u8], at: usize) -> usize
-    requires { at < length s.now }
-    ensures { at < result }
-{
-    let mut space = [0u8; TABLE_ROOM];
-    run_read(rt, to, s, at, &mut space)
 }
 
 pub(crate) fn run(rt: &impl Files, to: &mut Output, s: &[u8]) {
-    let mut at = 0;
-    while at < s.len() {
-        at = run_table(rt, to, s, at);
-    }
+    let mut space = [0u8; TABLE_ROOM];
+    run_lines(rt, to, s, &mut space);
 }

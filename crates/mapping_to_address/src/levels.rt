@@ -1,4 +1,6 @@
 // A record's eight levels, flattened into a buffer once, so that no record goes through the look-up.
+// An attribute's number is bounded where it is used: it indexes the one table of bounds, and loops count over it.
+// What is written goes to a place of a lent buffer, and where the next goes is told: `dst, at`, as in `put` of chars/src/write.rt.
 ghost use Rattle.std.specs.Prelude.{◌≡◌, [], ◌+◌, ◌<◌, ◌≤◌, get_or, length};
 ghost use Rattle.chars.specs.Write.{Wrote};
 ghost use Rattle.oraddr.specs.Attributes.{levels};
@@ -24,10 +26,7 @@ fn put_level(dst: &mut [u8], at: usize, rec: Record, k: usize) -> usize
     ensures wrote { Wrote dst.old at (get_or (levels (view rec)) k []) result dst.new }
     ensures short { length (get_or (levels (view rec)) k []) ≤ bound_of O }
 {
-    let value = rec.level(k);
-    let n = value.size();
-    let bytes = value.bytes;
-    put(dst, at, &bytes[..n])
+    put(dst, at, rec.level(k).text())
 }
 
 // Writes the levels of a record to the front of `flat`, and where they end to `ends`.
@@ -38,10 +37,8 @@ pub fn flatten(rec: Record, flat: &mut [u8], ends: &mut [usize])
 {
     ends[0] = 0;
     let mut n = 0;
-    let mut k = 0;
-    while k < LEVELS {
+    for k in 0..LEVELS {
         n = put_level(flat, n, rec, k);
-        k += 1;
-        ends[k] = n;
+        ends[k + 1] = n;
     }
 }

@@ -1,38 +1,42 @@
 // Record to address.
+// That a record is canonical is asked beside it: most callers have proved it of what they made, and a type for it would be taken apart again by each reader.
+// A row is places without its text, since it stands by value in a loaded table: that it lies in the text is asked beside it.
 ghost use Rattle.std.specs.Prelude.{◌≡◌, true, ◌+◌, ◌≤◌, length, take, drop};
 ghost use Rattle.chars.specs.Write.{Wrote};
-ghost use Rattle.oraddr.specs.Attributes.{levels};
+ghost use Rattle.oraddr.specs.Attributes as attributes;
+ghost use Rattle.oraddr.specs.Bounds.{level_count};
 ghost use Rattle.oraddr.specs.Canonical.{canonical_record};
 ghost use Rattle.oraddr.specs.View.{view};
 ghost use Rattle.mailaddr.specs.Shape.{quoted_local};
-ghost use Rattle.table_lookup.specs.Looked.{Ended, Laid, level_tokens};
-ghost use Rattle.table_lookup.specs.Lookup.{begins};
 ghost use Rattle.table.specs.Rows.{RowInside, row_at};
-ghost use Rattle.table.specs.declared.rows.Key.TheVariants.{Path};
-ghost use Rattle.table_order.specs.Place.{Sorted};
-ghost use Rattle.table_load.specs.Load.{KeptBy, load_answer};
-ghost use Rattle.mapping.specs.Answers.{RoutedBy, RoutedUnder, Writing, address_room, local_room, outward, routed_text, told_address};
-ghost use Rattle.mapping.specs.Flat.{Flat, fronts};
-ghost use Rattle.mapping.specs.ToAddress.{address_of, record_to_address, to_address, to_address_by};
-ghost use Rattle.oraddr.specs.Bounds.{level_count};
+ghost use Rattle.table_load.specs.Tables.{table_answer, table_of};
+ghost use Rattle.table_lookup.specs.Looked.{Laid};
+ghost use Rattle.table_lookup.specs.Tokens.{tokens_of};
+ghost use Rattle.table_lookup.specs.Lookup.{begins};
+ghost use Rattle.mapping.specs.Answers.{Routed, Writing, address_room, local_room, outward, routed_text, told_address};
+ghost use Rattle.mapping.specs.Flat.{fronts};
+ghost use Rattle.mapping.specs.ToAddress.{address_of, plan, plan_under, record_to_address, to_address, to_address_by};
 
 use crate::carrier::{is_carrier, write_carried};
 use crate::levels::{ENDS_ROOM, LEVELS_ROOM, flatten};
 use chars::parts::is_atoms;
 use chars::write::put;
 use mailaddr::shape::put_local;
-use mapping::answers::{AddressAnswer, Route, ToAddress, Written, place, refused};
+use mapping::answers::{AddressRefusal, place};
+use mapping::route::Route;
+use mapping::sides::Outward;
 use oraddr::bounds::LEVELS;
 use oraddr::record::Record;
 use oraddr_canonical::canonical::is_canonical;
 use ortext_write::write::{LONGEST_TEXT, write_local};
 use table::line::{LONGEST_GATEWAY_DOMAIN, Row};
-use table::load::{Loaded, TableRead};
+use table::load::Malformed;
 use table::rows::{ROWS_SIZE, row_at};
-use table_load::load::load;
+use table_load::read::read_table;
+use table_load::tables::Table;
 use table_lookup::extend::count_extension;
+use table_lookup::levels::Levels;
 use table_lookup::lookup::{find_path, match_path};
-use table_lookup::search::Found;
 
 // Room for any local part, and for any address: a local part in quotes, its `@` and the longest domain. A level that goes in front of a row's
 // domain takes no more there than it would in the local part.
@@ -41,51 +45,55 @@ const LOCAL_ROOM: usize = LONGEST_TEXT;
 pub const ADDRESS_ROOM: usize = LOCAL_ROOM + 3 + LONGEST_GATEWAY_DOMAIN;
 
 // The route under a row that was found: its path is matched level by level, which tells how many levels it has.
-fn route_under(text: &[u8], row: Row, flat: &[u8], ends: &[usize]) -> Route
+fn route_under<'a>(text: &'a [u8], row: Row, levels: &Levels) -> Route<'a>
     requires row_inside { RowInside text.now row }
-    requires ended { Ended flat.now ends.now level_count }
-    requires ends_value { begins (row_at text.now row).path (level_tokens flat.now ends.now) ≡ true }
-    ensures { RoutedUnder text.now row (level_tokens flat.now ends.now) result }
+    requires begins { begins (row_at text.now row).path (tokens_of levels.now) ≡ true }
+    ensures { Routed (tokens_of levels.now) (plan_under (row_at text.now row) (tokens_of levels.now)) result }
 {
-    let own = match_path(text, row.path, row.path_end, flat, ends, 0, LEVELS);
-    let more = count_extension(flat, ends, own);
-    Route { row, own, more }
-}
-
-// The route of a record by its levels: under its longest row, or with no level told at the gateway's domain.
-fn find_route(text: &[u8], to_domain: &[usize], table: Loaded, flat: &[u8], ends: &[usize]) -> Route
-    requires row_inside { RowInside text.now table.gateway }
-    requires sorted { Sorted Path text.now to_domain.now table.to_domain }
-    requires laid { Laid flat.now ends.now }
-    ensures { RoutedBy text.now (outward text.now to_domain.now table) (level_tokens flat.now ends.now) result }
-{
-    match find_path(text, to_domain, table.to_domain, flat, ends) {
-        Found::At(i) => route_under(text, row_at(to_domain, i), flat, ends),
-        Found::Nowhere => {
-            let row = table.gateway;
-            Route {
-                row,
-                own: 0,
-                more: 0,
-            }
-        }
+    let matched = match_path(
+        text,
+        row.path,
+        row.path_end,
+        levels.bytes,
+        levels.ends,
+        0,
+        LEVELS,
+    );
+    let own = matched.unwrap_or(0);
+    Route {
+        domain: &text[row.domain..row.domain_end],
+        own,
+        more: count_extension(levels, own),
     }
 }
 
+// The route of a record by its levels: under its longest row, or with no level told at the gateway's domain.
+fn find_route<'a>(table: &Outward<'a>, levels: &Levels) -> Route<'a>
+    requires { Laid levels.now.bytes.now levels.now.ends.now }
+    ensures { Routed (tokens_of levels.now) (plan (outward table.now.text.now table.now.to_domain.now table.now.loaded) (tokens_of levels.now)) result }
+{
+    let text = table.text;
+    let loaded = table.loaded;
+    let rows = table.to_domain;
+    let Some(i) = find_path(text, rows, loaded.to_domain, levels) else {
+        return Route {
+            domain: &text[loaded.gateway.domain..loaded.gateway.domain_end],
+            own: 0,
+            more: 0,
+        };
+    };
+    route_under(text, row_at(rows, i), levels)
+}
+
 // Writes the n levels from k on, the last of them first, each with a dot.
-fn put_fronts(dst: &mut [u8], at: usize, flat: &[u8], ends: &[usize], k: usize, n: usize) -> usize
+fn put_fronts(dst: &mut [u8], at: usize, levels: &Levels, k: usize, n: usize) -> usize
     requires n_bound { k + n ≤ level_count }
-    requires ended { Ended flat.now ends.now level_count }
-    requires ends_in_bounds { at + length (fronts (take n (drop k (level_tokens flat.now ends.now)))) ≤ length dst.old }
-    ensures { Wrote dst.old at (fronts (take n (drop k (level_tokens flat.now ends.now)))) result dst.new }
+    requires fronts_in_bounds { at + length (fronts (take n (drop k (tokens_of levels.now)))) ≤ length dst.old }
+    ensures { Wrote dst.old at (fronts (take n (drop k (tokens_of levels.now)))) result dst.new }
 {
     let mut next = at;
-    let mut i = k + n;
-    while k < i {
-        i -= 1;
-        let a = ends[i];
-        let b = ends[i + 1];
-        let end = put(dst, next, &flat[a..b]);
+    for i in (k..k + n).rev() {
+        let end = put(dst, next, levels.level(i));
         dst[end] = b'.';
         next = end + 1;
     }
@@ -117,105 +125,68 @@ fn quote_front(dst: &mut [u8], n: usize) -> usize
 }
 
 // Writes the address of a record that goes out by a route to the front of `dst`.
-fn write_routed(
-    dst: &mut [u8],
-    text: &[u8],
-    route: Route,
-    rec: Record,
-    flat: &[u8],
-    ends: &[usize],
-) -> usize
+fn write_routed(dst: &mut [u8], route: Route, rec: Record, levels: &Levels) -> usize
     requires dst_len { length dst.old ≡ address_room }
-    requires rec_value { canonical_record rec ≡ true }
-    requires flat { Flat (levels (view rec)) flat.now ends.now }
-    requires row_inside { RowInside text.now route.row }
-    requires more_bound { route.own + route.more ≤ level_count }
-    ensures { Wrote dst.old 0 (routed_text text.now route (view rec)) result dst.new }
+    requires canonical { canonical_record rec ≡ true }
+    requires same_levels { tokens_of levels.now ≡ attributes.levels (view rec) }
+    ensures { Wrote dst.old 0 (routed_text route.entry (view rec)) result dst.new }
 {
-    let own = route.own;
-    let more = route.more;
-    let m = write_local(dst, rec, own + more);
+    let m = write_local(dst, rec, route.own + route.more);
     let at = quote_front(dst, m);
     dst[at] = b'@';
-    let from = put_fronts(dst, at + 1, flat, ends, own, more);
-    let row = route.row;
-    let a = row.domain;
-    let b = row.domain_end;
-    put(dst, from, &text[a..b])
+    let from = put_fronts(dst, at + 1, levels, route.own, route.more);
+    put(dst, from, route.domain)
 }
 
 // Writes the address of a canonical record to the front of `dst`.
-pub fn write_address(
-    dst: &mut [u8],
-    text: &[u8],
-    to_domain: &[usize],
-    table: Loaded,
-    rec: Record,
-) -> Written
+pub fn write_address(dst: &mut [u8], table: &Outward, rec: Record) -> Option<usize>
     requires dst_len { length dst.old ≡ address_room }
-    requires row_inside { RowInside text.now table.gateway }
-    requires sorted { Sorted Path text.now to_domain.now table.to_domain }
-    requires rec_value { canonical_record rec ≡ true }
-    ensures { Writing (address_of (outward text.now to_domain.now table) (view rec)) dst.old result dst.new }
+    requires canonical { canonical_record rec ≡ true }
+    ensures { Writing (address_of (outward table.now.text.now table.now.to_domain.now table.now.loaded) (view rec)) dst.old result dst.new }
 {
     let mut flat = [0u8; LEVELS_ROOM];
     let mut ends = [0usize; ENDS_ROOM];
     flatten(rec, &mut flat, &mut ends);
-    let gateway = table.gateway;
-    if is_carrier(text, gateway, rec, &flat, &ends) {
-        let dds = rec.dds;
-        return write_carried(dst, dds);
+    let levels = Levels {
+        bytes: &flat,
+        ends: &ends,
+    };
+    if is_carrier(table.text, table.loaded.gateway, rec, &levels) {
+        return write_carried(dst, rec.dds);
     }
-    let route = find_route(text, to_domain, table, &flat, &ends);
-    Written::Length(write_routed(dst, text, route, rec, &flat, &ends))
+    Some(write_routed(dst, find_route(table, &levels), rec, &levels))
 }
 
 // A record to an address in a lent buffer, under a table that was loaded.
-pub fn map_record(
-    text: &[u8],
-    to_domain: &[usize],
-    table: Loaded,
-    rec: Record,
-    out: &mut [u8],
-) -> ToAddress
-    requires row_inside { RowInside text.now table.gateway }
-    requires sorted { Sorted Path text.now to_domain.now table.to_domain }
-    ensures { told_address result out.new ≡ to_address (outward text.now to_domain.now table) rec out.old }
+pub fn map_record(table: &Table, rec: Record, out: &mut [u8]) -> Result<usize, AddressRefusal>
+    ensures { told_address result out.new ≡ to_address (table_of table.now) rec out.old }
 {
     if !is_canonical(rec) {
-        return refused(AddressAnswer::NotCanonical);
+        return Err(AddressRefusal::NotCanonical);
     }
     let mut address = [0u8; ADDRESS_ROOM];
-    match write_address(&mut address, text, to_domain, table, rec) {
-        Written::Length(n) => place(out, &address[..n]),
-        Written::NoAddress => refused(AddressAnswer::NoAddress),
-    }
+    let Some(n) = write_address(&mut address, &Outward::of(table), rec) else {
+        return Err(AddressRefusal::NoAddress);
+    };
+    place(out, &address[..n])
 }
 
 // A record to an address in a lent buffer, under what a table was read as.
 pub fn record_under(
-    text: &[u8],
-    to_path: &[usize],
-    to_domain: &[usize],
-    read: TableRead,
+    read: Result<Table, Malformed>,
     rec: Record,
     out: &mut [u8],
-) -> ToAddress
-    requires { KeptBy text.now to_path.now to_domain.now read }
-    ensures { told_address result out.new ≡ to_address_by (load_answer text.now to_path.now to_domain.now read) rec out.old }
+) -> Result<usize, AddressRefusal>
+    ensures { told_address result out.new ≡ to_address_by (table_answer read.entry) rec out.old }
 {
-    match read {
-        TableRead::Table(t) => map_record(text, to_domain, t, rec, out),
-        TableRead::Malformed(line) => refused(AddressAnswer::Malformed(line)),
-    }
+    map_record(&read?, rec, out)
 }
 
 // A record to an address in a lent buffer, under a table text.
-pub fn record_to_address(table: &[u8], rec: Record, out: &mut [u8]) -> ToAddress
+pub fn record_to_address(table: &[u8], rec: Record, out: &mut [u8]) -> Result<usize, AddressRefusal>
     ensures { told_address result out.new ≡ record_to_address table.now rec out.old }
 {
     let mut to_path = [0usize; ROWS_SIZE];
     let mut to_domain = [0usize; ROWS_SIZE];
-    let read = load(table, &mut to_path, &mut to_domain);
-    record_under(table, &to_path, &to_domain, read, rec, out)
+    record_under(read_table(table, &mut to_path, &mut to_domain), rec, out)
 }

@@ -1,13 +1,13 @@
 // An address carried whole in a record.
+// A row is places without its text, since it stands by value in a loaded table: that it lies in the text is asked beside it.
 ghost use Rattle.std.specs.Prelude.{◌≡◌, ◌≤◌, length};
-ghost use Rattle.oraddr.specs.View.{empty_record};
 ghost use Rattle.mailaddr.specs.Shape.{longest_address};
 ghost use Rattle.table.specs.Rows.{RowInside, row_at};
-ghost use Rattle.mapping.specs.Answers.{record_bad_line, record_number, told_record};
+ghost use Rattle.mapping.specs.Answers.{told_record};
 ghost use Rattle.mapping.specs.Carried.{carrying};
 
 use mailaddr::code::put_coded;
-use mapping::answers::{RecordAnswer, ToRecord};
+use mapping::answers::RecordRefusal;
 use oraddr::bounds::DD_VALUE_ROOM;
 use oraddr::record::Record;
 use table::line::Row;
@@ -16,18 +16,8 @@ use table_settle::settle::add_path;
 // The longest coded form of an address.
 const LONGEST_CODED: usize = DD_VALUE_ROOM;
 
-// A refusal has an empty record.
-pub fn refused(answer: RecordAnswer) -> ToRecord
-    ensures { told_record result ≡ record { number = record_number answer; line = record_bad_line answer; record' = empty_record } }
-{
-    ToRecord {
-        answer,
-        record: Record::empty(),
-    }
-}
-
 // Carries the address `s` whole, under the gateway's path.
-pub fn carry(text: &[u8], gateway: Row, s: &[u8]) -> ToRecord
+pub fn carry(text: &[u8], gateway: Row, s: &[u8]) -> Result<Record, RecordRefusal>
     requires row_inside { RowInside text.now gateway }
     requires s_len_bound { length s.now ≤ longest_address }
     ensures { told_record result ≡ carrying (row_at text.now gateway).path s.now }
@@ -35,14 +25,9 @@ pub fn carry(text: &[u8], gateway: Row, s: &[u8]) -> ToRecord
     let mut value = [0u8; LONGEST_CODED];
     let n = put_coded(&mut value, s);
     if LONGEST_CODED < n {
-        return refused(RecordAnswer::TooLongCoded);
+        return Err(RecordRefusal::TooLongCoded);
     }
     let path = add_path(text, gateway.path, gateway.path_end);
-    let rec = path.record;
-    let done = rec.with_dd(b"RFC-822", &value[..n]);
-    let carrier = done.record;
-    ToRecord {
-        answer: RecordAnswer::Done,
-        record: carrier,
-    }
+    let done = path.record.with_dd(b"RFC-822", &value[..n]);
+    Ok(done.record)
 }

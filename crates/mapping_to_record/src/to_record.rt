@@ -1,186 +1,132 @@
 // Address to record.
+// The steps behind the test of the shape ask for what it found: an address's length, and where its `@` stands.
 ghost use Rattle.std.specs.Prelude.{◌≡◌, ◌<◌, ◌≤◌, length};
-ghost use Rattle.ortext_read.specs.Answers.{reading, reading_result, told_reading};
-ghost use Rattle.ortext_read.specs.Apply.{unread};
+ghost use Rattle.ortext_read.specs.Answers.{reading_result, told_reading};
 ghost use Rattle.mailaddr.specs.Answers.{address_at, local_at};
 ghost use Rattle.mailaddr.specs.Shape.{longest_address};
-ghost use Rattle.table.specs.Rows.{RowInside};
-ghost use Rattle.table.specs.declared.rows.Key.TheVariants.{Domain};
-ghost use Rattle.table_order.specs.Place.{Sorted};
-ghost use Rattle.table_load.specs.Load.{KeptBy, load_answer};
+ghost use Rattle.table_load.specs.Tables.{table_answer};
 ghost use Rattle.table_settle.specs.Settle.{settlement_answer};
-ghost use Rattle.mapping.specs.Answers.{inward, is_good, read_settled, read_well, record_parted, told_record};
+ghost use Rattle.mapping.specs.Answers.{inward, read_settled, read_well, record_parted, told_record};
 ghost use Rattle.mapping.specs.Carried.{settled_under};
 ghost use Rattle.mapping.specs.ToRecord.{address_to_record, to_record, to_record_by};
 
-use crate::carrier::{carry, refused};
+use crate::carrier::carry;
 use chars::case::same_text;
 use mailaddr::domain::is_domain;
-use mailaddr::shape::{LONGEST_ADDRESS, Parted, ShapeRead, is_readable, read_shape, unquote_local};
-use mapping::answers::{RecordAnswer, ToRecord};
+use mailaddr::shape::{
+    AddressFault, LONGEST_ADDRESS, Parted, is_readable, read_shape, unquote_local,
+};
+use mapping::answers::RecordRefusal;
+use mapping::sides::Inward;
 use oraddr::record::Record;
 use oraddr_canonical::canonical::is_canonical;
-use ortext_read::read::{Answer, Reading, read_local};
-use table::load::{Loaded, TableRead};
+use ortext_read::read::{TextFault, read_local};
+use table::load::Malformed;
 use table::rows::ROWS_SIZE;
-use table_load::load::load;
-use table_settle::settle::{Settled, Settlement, settle};
+use table_load::read::read_table;
+use table_load::tables::Table;
+use table_settle::settle::{Settlement, Unsettled, settle};
 
 // Step 1: the levels that a domain settles; at the gateway's, none.
-fn settle_under(text: &[u8], to_path: &[usize], table: Loaded, domain: &[u8]) -> Settlement
-    requires row_inside { RowInside text.now table.gateway }
-    requires sorted { Sorted Domain text.now to_path.now table.to_path }
-    ensures { settlement_answer result ≡ settled_under (inward text.now to_path.now table) domain.now }
+fn settle_under(table: &Inward, domain: &[u8]) -> Result<Settlement, Unsettled>
+    ensures { settlement_answer result ≡ settled_under (inward table.now.text.now table.now.to_path.now table.now.loaded) domain.now }
 {
-    let gateway = table.gateway;
-    let a = gateway.domain;
-    let b = gateway.domain_end;
-    if same_text(&text[a..b], domain) {
-        return Settlement {
-            answer: Settled::Levels(0),
+    let gateway = table.loaded.gateway;
+    if same_text(&table.text[gateway.domain..gateway.domain_end], domain) {
+        return Ok(Settlement {
+            levels: 0,
             record: Record::empty(),
-        };
+        });
     }
-    settle(text, to_path, table.to_path, domain)
-}
-
-fn unread() -> Reading
-    ensures { told_reading result ≡ reading_result unread }
-{
-    Reading {
-        answer: Answer::Unread,
-        record: Record::empty(),
-    }
+    settle(table.text, table.to_path, table.loaded.to_path, domain)
 }
 
 // Reads a local part over settled levels, if it can be read at all.
-fn read_over(rec: Record, n: usize, s: &[u8]) -> Reading
-    ensures { told_reading result ≡ reading_result (read_settled n rec s.now) }
+fn read_over(settled: &Settlement, s: &[u8]) -> Result<Record, TextFault>
+    ensures { told_reading result ≡ reading_result (read_settled settled.now.levels settled.now.«record» s.now) }
 {
-    if !is_readable(s) {
-        return unread();
+    if is_readable(s) {
+        read_local(settled.record, settled.levels, s)
+    } else {
+        Err(TextFault::Unread)
     }
-    read_local(rec, n, s)
 }
 
-// Steps 2 to 4 over n settled levels, by way of an unquoted copy of the local part.
-fn read_unquoted(rec: Record, n: usize, s: &[u8], parted: Parted) -> Reading
+// Steps 2 to 4 over settled levels, by way of an unquoted copy of the local part.
+fn read_unquoted(settled: &Settlement, s: &[u8], parted: Parted) -> Result<Record, TextFault>
     requires s_len_bound { length s.now ≤ longest_address }
     requires at_in_bounds { parted.at ≤ length s.now }
-    ensures { told_reading result ≡ reading_result (read_settled n rec (local_at s.now parted)) }
+    ensures { told_reading result ≡ reading_result (read_settled settled.now.levels settled.now.«record» (local_at s.now parted)) }
 {
     let mut local = [0u8; LONGEST_ADDRESS];
     let m = unquote_local(&mut local, s, parted);
-    read_over(rec, n, &local[..m])
+    read_over(settled, &local[..m])
 }
 
-// Steps 2 to 4 over n settled levels. A local part without quotes is read where it stands.
-fn read_under(rec: Record, n: usize, s: &[u8], parted: Parted) -> Reading
+// Steps 2 to 4 over settled levels. A local part without quotes is read where it stands.
+fn read_under(settled: &Settlement, s: &[u8], parted: Parted) -> Result<Record, TextFault>
     requires s_len_bound { length s.now ≤ longest_address }
     requires at_in_bounds { parted.at ≤ length s.now }
-    ensures { told_reading result ≡ reading_result (read_settled n rec (local_at s.now parted)) }
+    ensures { told_reading result ≡ reading_result (read_settled settled.now.levels settled.now.«record» (local_at s.now parted)) }
 {
     if parted.quoted {
-        return read_unquoted(rec, n, s, parted);
+        read_unquoted(settled, s, parted)
+    } else {
+        read_over(settled, &s[..parted.at])
     }
-    let at = parted.at;
-    read_over(rec, n, &s[..at])
 }
 
 // Steps 1 to 4, for an address that is not carried whole for its domain or the characters of its local part.
-fn read_parted(text: &[u8], to_path: &[usize], table: Loaded, s: &[u8], parted: Parted) -> Reading
-    requires row_inside { RowInside text.now table.gateway }
-    requires sorted { Sorted Domain text.now to_path.now table.to_path }
+fn read_parted(table: &Inward, s: &[u8], parted: Parted) -> Result<Record, TextFault>
     requires s_len_bound { length s.now ≤ longest_address }
     requires at_in_bounds { parted.at < length s.now }
-    ensures { told_reading result ≡ reading_result (read_well (inward text.now to_path.now table) (address_at s.now parted)) }
+    ensures { told_reading result ≡ reading_result (read_well (inward table.now.text.now table.now.to_path.now table.now.loaded) (address_at s.now parted)) }
 {
-    let from = parted.at + 1;
-    let domain = &s[from..];
+    let domain = &s[parted.at + 1..];
     if !is_domain(domain) {
-        return unread();
+        return Err(TextFault::Unread);
     }
-    let done = settle_under(text, to_path, table, domain);
-    let rec = done.record;
-    let answer = done.answer;
-    match answer {
-        Settled::Levels(n) => read_under(rec, n, s, parted),
-        Settled::NoRow => unread(),
-        Settled::PastUnits => unread(),
-        Settled::PastBound => unread(),
-    }
-}
-
-// Whether what was read is a canonical record.
-fn is_good(done: Reading) -> bool
-    ensures { result ≡ is_good (reading done) }
-{
-    let answer = done.answer;
-    let rec = done.record;
-    match answer {
-        Answer::Done => is_canonical(rec),
-        Answer::Unread => false,
-        Answer::Refused => false,
-        Answer::Again => false,
+    match settle_under(table, domain) {
+        Ok(settled) => read_under(&settled, s, parted),
+        Err(_) => Err(TextFault::Unread),
     }
 }
 
 // The record of an address that has the accepted shape, or the address carried whole.
-fn map_shaped(text: &[u8], to_path: &[usize], table: Loaded, s: &[u8], parted: Parted) -> ToRecord
-    requires row_inside { RowInside text.now table.gateway }
-    requires sorted { Sorted Domain text.now to_path.now table.to_path }
+fn map_shaped(table: &Inward, s: &[u8], parted: Parted) -> Result<Record, RecordRefusal>
     requires s_len_bound { length s.now ≤ longest_address }
     requires at_in_bounds { parted.at < length s.now }
-    ensures { told_record result ≡ record_parted (inward text.now to_path.now table) s.now parted }
+    ensures { told_record result ≡ record_parted (inward table.now.text.now table.now.to_path.now table.now.loaded) s.now parted }
 {
-    let done = read_parted(text, to_path, table, s, parted);
-    if is_good(done) {
-        let rec = done.record;
-        return ToRecord {
-            answer: RecordAnswer::Done,
-            record: rec,
-        };
+    match read_parted(table, s, parted) {
+        Ok(rec) if is_canonical(rec) => Ok(rec),
+        _ => carry(table.text, table.loaded.gateway, s),
     }
-    let gateway = table.gateway;
-    carry(text, gateway, s)
 }
 
 // An address to a record, under a table that was loaded.
-pub fn map_address(text: &[u8], to_path: &[usize], table: Loaded, s: &[u8]) -> ToRecord
-    requires row_inside { RowInside text.now table.gateway }
-    requires sorted { Sorted Domain text.now to_path.now table.to_path }
-    ensures { told_record result ≡ to_record (inward text.now to_path.now table) s.now }
+pub fn map_address(table: &Inward, s: &[u8]) -> Result<Record, RecordRefusal>
+    ensures { told_record result ≡ to_record (inward table.now.text.now table.now.to_path.now table.now.loaded) s.now }
 {
     match read_shape(s) {
-        ShapeRead::Address(parted) => map_shaped(text, to_path, table, s, parted),
-        ShapeRead::TooLong => refused(RecordAnswer::TooLong),
-        ShapeRead::NoShape => refused(RecordAnswer::NoShape),
+        Ok(parted) => map_shaped(table, s, parted),
+        Err(AddressFault::TooLong) => Err(RecordRefusal::TooLong),
+        Err(AddressFault::NoShape) => Err(RecordRefusal::NoShape),
     }
 }
 
 // An address to a record, under what a table was read as.
-pub fn address_under(
-    text: &[u8],
-    to_path: &[usize],
-    to_domain: &[usize],
-    read: TableRead,
-    s: &[u8],
-) -> ToRecord
-    requires { KeptBy text.now to_path.now to_domain.now read }
-    ensures { told_record result ≡ to_record_by (load_answer text.now to_path.now to_domain.now read) s.now }
+pub fn address_under(read: Result<Table, Malformed>, s: &[u8]) -> Result<Record, RecordRefusal>
+    ensures { told_record result ≡ to_record_by (table_answer read.entry) s.now }
 {
-    match read {
-        TableRead::Table(t) => map_address(text, to_path, t, s),
-        TableRead::Malformed(line) => refused(RecordAnswer::Malformed(line)),
-    }
+    map_address(&Inward::of(&read?), s)
 }
 
 // An address to a record, under a table text.
-pub fn address_to_record(table: &[u8], s: &[u8]) -> ToRecord
+pub fn address_to_record(table: &[u8], s: &[u8]) -> Result<Record, RecordRefusal>
     ensures { told_record result ≡ address_to_record table.now s.now }
 {
     let mut to_path = [0usize; ROWS_SIZE];
     let mut to_domain = [0usize; ROWS_SIZE];
-    let read = load(table, &mut to_path, &mut to_domain);
-    address_under(table, &to_path, &to_domain, read, s)
+    address_under(read_table(table, &mut to_path, &mut to_domain), s)
 }

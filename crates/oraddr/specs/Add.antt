@@ -4,7 +4,7 @@
 use Rattle.std.specs.Prelude.{ℕ, ◌+◌, Bool, ◌&&◌, cond, List, [], eqb, ltb, get_or, set}
 use Rattle.oraddr.specs.Bounds.{C, ADMD, PRMD, O, CN, S, G, I, GQ, most, rule}
 use Rattle.oraddr.specs.Canonical.{is_unit, is_dd}
-use Rattle.oraddr.specs.View.{value_of, org_unit_of, domain_defined_of}
+use Rattle.oraddr.specs.View.{value_of, org_unit_of, domain_defined_of, text_of}
 use Rattle.oraddr.specs.declared.value.DomainDefined.{DomainDefined}
 use Rattle.oraddr.specs.declared.record.Record.{Record}
 use Rattle.oraddr.specs.declared.record.Singles.{Singles}
@@ -47,7 +47,7 @@ outcome allowed new old = cond allowed (record { number = 0; record' = new }) (r
 
 -- an attribute that a record has once goes to its place
 unfoldable pub set_single : Singles → ℕ → List ℕ → Singles
-unfolding value_of
+unfolding text_of
 set_single s k v = record { values = set s.values k (value_of v) }
 
 unfoldable pub add_single : Record → ℕ → List ℕ → Outcome
@@ -58,7 +58,7 @@ add_single r k v =
 
 -- a unit goes behind those that are there
 unfoldable pub push_unit : Units → List ℕ → Units
-unfolding org_unit_of
+unfolding text_of
 push_unit u v = record { count = u.count + 1; names = set u.names u.count (org_unit_of v) }
 
 unfoldable pub add_unit : Record → List ℕ → Outcome

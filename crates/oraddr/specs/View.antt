@@ -5,10 +5,7 @@ use Rattle.chars.specs.Lists.{all}
 use Rattle.chars.specs.Write.{front}
 use Rattle.oraddr.specs.Bounds.{most, single_count, bound_of, O, OU, dd_type, dd_value}
 use Rattle.oraddr.specs.Attributes.{Attributes, Dd}
-use Rattle.oraddr.specs.declared.value.Value.{Value}
-use Rattle.oraddr.specs.declared.value.OrgUnit.{OrgUnit}
-use Rattle.oraddr.specs.declared.value.DdType.{DdType}
-use Rattle.oraddr.specs.declared.value.DdValue.{DdValue}
+use Rattle.oraddr.specs.declared.value.Text.{Text}
 use Rattle.oraddr.specs.declared.value.DomainDefined.{DomainDefined}
 use Rattle.oraddr.specs.declared.record.Singles.{Singles}
 use Rattle.oraddr.specs.declared.record.Units.{Units}
@@ -16,28 +13,41 @@ use Rattle.oraddr.specs.declared.record.Dds.{Dds}
 use Rattle.oraddr.specs.declared.record.Record.{Record}
 
 -- the text that a struct holds: the first `len` bytes of its room
-unfoldable pub value_view : Value → List ℕ
-value_view v = take v.len v.bytes
+abbrev pub held_text : {n : ℕ} → Text n → List ℕ
+held_text t = take t.len t.bytes
 
-unfoldable pub unit_view : OrgUnit → List ℕ
-unit_view v = take v.len v.bytes
+-- the four kinds of text, by the bounds that their rooms have
+abbrev pub Value : Type 0
+Value = Text (bound_of O)
 
-unfoldable pub kind_view : DdType → List ℕ
-kind_view v = take v.len v.bytes
+abbrev pub OrgUnit : Type 0
+OrgUnit = Text (bound_of OU)
 
-unfoldable pub dd_value_view : DdValue → List ℕ
-dd_value_view v = take v.len v.bytes
+abbrev pub DdType : Type 0
+DdType = Text (bound_of dd_type)
+
+abbrev pub DdValue : Type 0
+DdValue = Text (bound_of dd_value)
+
+abbrev pub value_view : Value → List ℕ
+value_view = held_text
+
+abbrev pub unit_view : OrgUnit → List ℕ
+unit_view = held_text
+
+abbrev pub kind_view : DdType → List ℕ
+kind_view = held_text
+
+abbrev pub dd_value_view : DdValue → List ℕ
+dd_value_view = held_text
 
 unfoldable pub dd_view : DomainDefined → Dd
-unfolding kind_view dd_value_view
 dd_view d = record { kind = kind_view d.kind; value = dd_value_view d.value }
 
 unfoldable pub singles_view : Singles → List (List ℕ)
-unfolding value_view
 singles_view s = map value_view s.values
 
 unfoldable pub units_view : Units → List (List ℕ)
-unfolding unit_view
 units_view u = take u.count (map unit_view u.names)
 
 unfoldable pub dds_view : Dds → List Dd
@@ -48,38 +58,41 @@ unfoldable pub view : Record → Attributes
 unfolding singles_view units_view dds_view
 view r = record { single = singles_view r.singles; units = units_view r.units; dds = dds_view r.dds }
 
--- the struct that holds a text, the bytes past its length 0
-unfoldable pub value_of : List ℕ → Value
+-- the struct that holds a text in a room of n bytes, those past its length 0
+unfoldable pub text_of : (n : ℕ) → List ℕ → Text n
 unfolding front
-value_of s = record { len = length s; bytes = front s (replicate (bound_of O) 0) }
+text_of n s = record { len = length s; bytes = front s (replicate n 0) }
 
-unfoldable pub org_unit_of : List ℕ → OrgUnit
-unfolding front
-org_unit_of s = record { len = length s; bytes = front s (replicate (bound_of OU) 0) }
+abbrev pub value_of : List ℕ → Value
+value_of = text_of (bound_of O)
 
-unfoldable pub kind_of : List ℕ → DdType
-unfolding front
-kind_of s = record { len = length s; bytes = front s (replicate (bound_of dd_type) 0) }
+abbrev pub org_unit_of : List ℕ → OrgUnit
+org_unit_of = text_of (bound_of OU)
 
-unfoldable pub dd_value_of : List ℕ → DdValue
-unfolding front
-dd_value_of s = record { len = length s; bytes = front s (replicate (bound_of dd_value) 0) }
+abbrev pub kind_of : List ℕ → DdType
+kind_of = text_of (bound_of dd_type)
+
+abbrev pub dd_value_of : List ℕ → DdValue
+dd_value_of = text_of (bound_of dd_value)
 
 unfoldable pub domain_defined_of : List ℕ → List ℕ → DomainDefined
-unfolding kind_of dd_value_of
+unfolding text_of
 domain_defined_of t s = record { kind = kind_of t; value = dd_value_of s }
 
 -- no length is over its room, and no count over the most there may be
+abbrev pub text_in_range : {n : ℕ} → Text n → Bool
+text_in_range {n} t = leb t.len n
+
 unfoldable pub singles_in_range : Singles → Bool
 unfolding all
-singles_in_range s = all (λ v. leb v.len (bound_of O)) s.values
+singles_in_range s = all text_in_range s.values
 
 unfoldable pub units_in_range : Units → Bool
 unfolding all
-units_in_range u = leb u.count most && all (λ v. leb v.len (bound_of OU)) (take u.count u.names)
+units_in_range u = leb u.count most && all text_in_range (take u.count u.names)
 
 unfoldable pub dd_in_range : DomainDefined → Bool
-dd_in_range d = leb d.kind.len (bound_of dd_type) && leb d.value.len (bound_of dd_value)
+dd_in_range d = text_in_range d.kind && text_in_range d.value
 
 unfoldable pub dds_in_range : Dds → Bool
 unfolding all dd_in_range
@@ -91,21 +104,21 @@ in_range r = singles_in_range r.singles && units_in_range r.units && dds_in_rang
 
 -- The bytes past each text's length are 0, and so are the places past each count. Every record that is made here is so, and
 -- then two that hold the same attributes are equal.
-unfoldable pub clean_text : ℕ → List ℕ → Bool
+unfoldable pub clean_text : {n : ℕ} → Text n → Bool
 unfolding all
-clean_text n b = all (λ x. eqb x 0) (drop n b)
+clean_text t = all (λ x. eqb x 0) (drop t.len t.bytes)
 
 unfoldable pub clean_singles : Singles → Bool
 unfolding all clean_text
-clean_singles s = all (λ v. clean_text v.len v.bytes) s.values
+clean_singles s = all clean_text s.values
 
 unfoldable pub clean_units : Units → Bool
 unfolding all clean_text
-clean_units u = all (λ v. clean_text v.len v.bytes) u.names && all (λ v. eqb v.len 0) (drop u.count u.names)
+clean_units u = all clean_text u.names && all (λ v. eqb v.len 0) (drop u.count u.names)
 
 unfoldable pub clean_dd : DomainDefined → Bool
 unfolding clean_text
-clean_dd d = clean_text d.kind.len d.kind.bytes && clean_text d.value.len d.value.bytes
+clean_dd d = clean_text d.kind && clean_text d.value
 
 unfoldable pub clean_dds : Dds → Bool
 unfolding all clean_dd
@@ -117,7 +130,7 @@ clean r = clean_singles r.singles && clean_units r.units && clean_dds r.dds
 
 -- document 01: an "empty record"
 abbrev pub empty_record : Record
-unfolding value_of org_unit_of domain_defined_of
+unfolding text_of domain_defined_of
 empty_record =
     record {
       singles = record { values = replicate single_count (value_of []) };

@@ -1,15 +1,14 @@
 // Adding attributes to a record, one at a time (document 01, "The record").
+// An attribute's number is bounded where it is used: it indexes the one table of bounds, and loops count over it.
 ghost use Rattle.std.specs.Prelude.{◌≡◌, ◌<◌};
 ghost use Rattle.oraddr.specs.Add.{add_dd, add_single, add_unit, place_of, told};
 ghost use Rattle.oraddr.specs.Bounds.{single_count};
 
-use crate::bounds::{
-    ADMD, C, CN, DD_TYPE, DD_VALUE, G, GQ, I, MOST, O, OU, PRMD, S, is_value, keeps_rule,
-};
+use crate::bounds::{DD_TYPE, DD_VALUE, MOST, OU, is_value, keeps_rule};
 use crate::record::Record;
 use crate::value::{DdType, DdValue, DomainDefined, OrgUnit, Value};
 
-// An attribute that a record has once.
+// An attribute that a record has once. They stand in the order of their numbers in the table of bounds.
 #[derive(Clone, Copy)]
 pub enum Attribute {
     C,
@@ -41,48 +40,25 @@ pub struct Addition {
 pub fn place(a: Attribute) -> usize
     ensures { result ≡ place_of a }
 {
-    match a {
-        Attribute::C => C,
-        Attribute::Admd => ADMD,
-        Attribute::Prmd => PRMD,
-        Attribute::O => O,
-        Attribute::Cn => CN,
-        Attribute::S => S,
-        Attribute::G => G,
-        Attribute::I => I,
-        Attribute::Gq => GQ,
-    }
+    a as usize
 }
 
 impl Record {
     // Adds the attribute with the number k, which a record has once.
-    pub fn with_single(self, k: usize, value: &[u8]) -> Addition
+    #[tactic(auto, unfolding(crate::specs::Add::add_single, crate::specs::Add::set_single, crate::specs::Add::outcome))]
+    pub fn with_single(mut self, k: usize, value: &[u8]) -> Addition
         requires { k < single_count }
         ensures { told result ≡ add_single self k value.now }
     {
-        if !keeps_rule(k, value) {
+        if !keeps_rule(k, value) || self.singles.values[k].len != 0 {
             return Addition {
-                record: self,
+                record: self, // breaks its rule, or is there already
                 answer: Added::Refused,
             };
         }
-        let mut singles = self.singles;
-        let there = singles.values[k];
-        if there.len != 0 {
-            return Addition {
-                record: self, // there already
-                answer: Added::Refused,
-            };
-        }
-        singles.values[k] = Value::of(value);
-        let units = self.units;
-        let dds = self.dds;
+        self.singles.values[k] = Value::of(value);
         Addition {
-            record: Record {
-                singles,
-                units,
-                dds,
-            },
+            record: self,
             answer: Added::Done,
         }
     }
@@ -95,74 +71,44 @@ impl Record {
     }
 
     // Adds a unit behind those that are there: the most significant comes first.
-    pub fn with_unit(self, name: &[u8]) -> Addition
+    #[tactic(auto, unfolding(crate::specs::Add::add_unit, crate::specs::Canonical::is_unit, crate::specs::Add::push_unit, crate::specs::Add::outcome))]
+    pub fn with_unit(mut self, name: &[u8]) -> Addition
         ensures { told result ≡ add_unit self name.now }
     {
-        if !is_value(OU, name) {
+        let count = self.units.count;
+        if !is_value(OU, name) || MOST <= count {
             return Addition {
                 record: self,
-                answer: Added::Refused,
+                answer: Added::Refused, // no value, or a fifth unit
             };
         }
-        let mut units = self.units;
-        let count = units.count;
-        if MOST <= count {
-            return Addition {
-                record: self,
-                answer: Added::Refused, // a fifth unit
-            };
-        }
-        units.names[count] = OrgUnit::of(name);
-        units.count = count + 1;
-        let singles = self.singles;
-        let dds = self.dds;
+        self.units.names[count] = OrgUnit::of(name);
+        self.units.count = count + 1;
         Addition {
-            record: Record {
-                singles,
-                units,
-                dds,
-            },
+            record: self,
             answer: Added::Done,
         }
     }
 
     // Adds a domain defined attribute behind those that are there.
-    pub fn with_dd(self, kind: &[u8], value: &[u8]) -> Addition
+    #[tactic(auto, unfolding(crate::specs::Add::add_dd, crate::specs::Canonical::is_dd, crate::specs::Add::push_dd, crate::specs::Add::outcome, crate::specs::View::domain_defined_of))]
+    pub fn with_dd(mut self, kind: &[u8], value: &[u8]) -> Addition
         ensures { told result ≡ add_dd self kind.now value.now }
     {
-        if !is_value(DD_TYPE, kind) {
+        let count = self.dds.count;
+        if !is_value(DD_TYPE, kind) || !is_value(DD_VALUE, value) || MOST <= count {
             return Addition {
                 record: self,
                 answer: Added::Refused,
             };
         }
-        if !is_value(DD_VALUE, value) {
-            return Addition {
-                record: self,
-                answer: Added::Refused,
-            };
-        }
-        let mut dds = self.dds;
-        let count = dds.count;
-        if MOST <= count {
-            return Addition {
-                record: self,
-                answer: Added::Refused,
-            };
-        }
-        dds.items[count] = DomainDefined {
+        self.dds.items[count] = DomainDefined {
             kind: DdType::of(kind),
             value: DdValue::of(value),
         };
-        dds.count = count + 1;
-        let singles = self.singles;
-        let units = self.units;
+        self.dds.count = count + 1;
         Addition {
-            record: Record {
-                singles,
-                units,
-                dds,
-            },
+            record: self,
             answer: Added::Done,
         }
     }

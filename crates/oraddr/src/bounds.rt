@@ -1,11 +1,13 @@
 // The one table of attribute bounds, the attributes' numbers in it, and each attribute's own rule.
+// An attribute's number is bounded where it is used: it indexes the one table of bounds, and loops count over it.
 ghost use Rattle.std.specs.Prelude.{◌≡◌, ◌<◌};
 ghost use Rattle.oraddr.specs.Bounds.{bound_of, entries, is_country, is_space, is_value, rule};
 
+use chars::case::equal_text;
 use chars::class::{Class, all_in};
 use chars::parts::is_text;
 
-// The entries of the table. The first SINGLES are the attributes that a record has once: the levels among them, the common name, the personal name.
+// The entries of the table, by numbers: the table is indexed by them, and `single_of`, `rule` and `levels` speak of them. The first SINGLES are the attributes that a record has once: the levels among them, the common name, the personal name.
 pub const C: usize = 0;
 
 pub const ADMD: usize = 1;
@@ -81,40 +83,33 @@ pub fn bound(k: usize) -> usize
 }
 
 // A value within bound k: not empty, printable string characters, well spaced.
+#[tactic(auto, unfolding(crate::specs::Bounds::is_value))]
 pub fn is_value(k: usize, s: &[u8]) -> bool
     requires { k < entries }
     ensures { result ≡ is_value k s.now }
 {
-    if bound(k) < s.len() {
-        return false;
-    }
-    is_text(s)
+    s.len() <= bound(k) && is_text(s)
 }
 
 // Two letters or three digits.
+#[tactic(auto, unfolding(crate::specs::Bounds::is_country, chars::specs::Class::is_in))]
 pub fn is_country(s: &[u8]) -> bool
     ensures { result ≡ is_country s.now }
 {
-    if s.len() == bound(C_LETTERS) {
-        return all_in(s, Class::Letter);
-    }
-    if s.len() == bound(C) {
-        return all_in(s, Class::Digit);
-    }
-    false
+    s.len() == bound(C_LETTERS) && all_in(s, Class::Letter)
+        || s.len() == bound(C) && all_in(s, Class::Digit)
 }
 
 // One space, which an ADMD may be.
+#[tactic(auto, unfolding(crate::specs::Bounds::is_space))]
 pub fn is_space(s: &[u8]) -> bool
     ensures { result ≡ is_space s.now }
 {
-    if s.len() == 1 {
-        return s[0] == b' ';
-    }
-    false
+    equal_text(s, b" ")
 }
 
 // The own rule of the attribute with the number k, for a value that is present.
+#[tactic(auto, unfolding(crate::specs::Bounds::rule))]
 pub fn keeps_rule(k: usize, s: &[u8]) -> bool
     requires { k < entries }
     ensures { result ≡ rule k s.now }
@@ -122,11 +117,5 @@ pub fn keeps_rule(k: usize, s: &[u8]) -> bool
     if k == C {
         return is_country(s);
     }
-    if is_value(k, s) {
-        return true;
-    }
-    if k == ADMD {
-        return is_space(s);
-    }
-    false
+    is_value(k, s) || k == ADMD && is_space(s)
 }

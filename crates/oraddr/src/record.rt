@@ -1,12 +1,13 @@
 // The record by value, the empty one, and readers of its attributes and levels. A record is any input: what stands past a
 // length or a count is not part of it.
+// An attribute's number is bounded where it is used: it indexes the one table of bounds, and loops count over it.
 ghost use Rattle.std.specs.Prelude.{◌≡◌, ◌<◌, get_or, length, []};
 ghost use Rattle.oraddr.specs.Attributes.{levels, no_dd, single_of, unit_of};
 ghost use Rattle.oraddr.specs.Bounds.{level_count, single_count};
 ghost use Rattle.oraddr.specs.View.{dd_view, dds_view, empty_record, unit_view, units_view, value_of, value_view, view};
 
 use crate::bounds::{DD_TYPE_ROOM, DD_VALUE_ROOM, MOST, OU_ROOM, OWN_LEVELS, SINGLES, VALUE_ROOM};
-use crate::value::{DdType, DdValue, DomainDefined, OrgUnit, Value, held, within};
+use crate::value::{DdType, DdValue, DomainDefined, OrgUnit, Value};
 
 // The attributes that a record has once, by their numbers in the table of bounds.
 #[derive(Clone, Copy)]
@@ -14,7 +15,7 @@ pub struct Singles {
     pub values: [Value; SINGLES],
 }
 
-// The units, most significant first.
+// The units, most significant first. (By value and in fixed memory, so a count stands beside the places; so of the DDs.)
 #[derive(Clone, Copy)]
 pub struct Units {
     pub count: usize,
@@ -35,6 +36,8 @@ pub struct Record {
     pub dds: Dds,
 }
 
+// The value, the unit and the DD that is not there. (No constant of `Text` gives the empty text: a constant's value cannot
+// name what a generic block defines.)
 const NO_VALUE: Value = Value {
     len: 0,
     bytes: [0u8; VALUE_ROOM],
@@ -71,19 +74,6 @@ pub(crate) const EMPTY: Record = Record {
     },
 };
 
-// The unit, and the DD, that is not there.
-fn no_unit() -> OrgUnit
-    ensures { unit_view result ≡ [] }
-{
-    NO_UNIT
-}
-
-fn no_dd() -> DomainDefined
-    ensures { dd_view result ≡ no_dd }
-{
-    NO_DD
-}
-
 impl Singles {
     // The value with the number k.
     pub fn value(self, k: usize) -> Value
@@ -96,42 +86,49 @@ impl Singles {
 
 impl Units {
     // How many units there are, whatever the count says.
+    #[tactic(auto, unfolding(crate::specs::View::units_view))]
     pub fn size(self) -> usize
         ensures { result ≡ length (units_view self) }
     {
-        within(self.count, MOST)
+        self.count.min(MOST)
     }
 
     // Unit i, or the empty one where there are fewer.
+    #[tactic(auto, unfolding(crate::specs::View::units_view))]
     pub fn name(self, i: usize) -> OrgUnit
         ensures { unit_view result ≡ get_or (units_view self) i [] }
     {
         if i < self.size() {
-            return self.names[i];
+            self.names[i]
+        } else {
+            NO_UNIT
         }
-        no_unit()
     }
 }
 
 impl Dds {
+    #[tactic(auto, unfolding(crate::specs::View::dds_view))]
     pub fn size(self) -> usize
         ensures { result ≡ length (dds_view self) }
     {
-        within(self.count, MOST)
+        self.count.min(MOST)
     }
 
     // DD i, or the empty one where there are fewer.
+    #[tactic(auto, unfolding(crate::specs::View::dds_view, crate::specs::View::dd_view, crate::specs::Attributes::no_dd))]
     pub fn item(self, i: usize) -> DomainDefined
         ensures { dd_view result ≡ get_or (dds_view self) i no_dd }
     {
         if i < self.size() {
-            return self.items[i];
+            self.items[i]
+        } else {
+            NO_DD
         }
-        no_dd()
     }
 }
 
 impl Record {
+    #[tactic(auto, unfolding(crate::specs::View::domain_defined_of, crate::specs::View::text_of, chars::specs::Write::front))]
     pub fn empty() -> Record
         ensures { result ≡ empty_record }
     {
@@ -139,19 +136,19 @@ impl Record {
     }
 
     // The value of the attribute with the number k, which a record has once.
+    #[tactic(auto, unfolding(crate::specs::Attributes::single_of, crate::specs::View::view), using(crate::proofs::Laws::View::single_view))]
     pub fn single(self, k: usize) -> Value
         requires { k < single_count }
         ensures { value_view result ≡ single_of (view self) k }
     {
-        let singles = self.singles;
-        singles.value(k)
+        self.singles.value(k)
     }
 
+    #[tactic(auto, unfolding(crate::specs::Attributes::unit_of, crate::specs::View::view))]
     pub fn unit(self, i: usize) -> OrgUnit
         ensures { unit_view result ≡ unit_of (view self) i }
     {
-        let units = self.units;
-        units.name(i)
+        self.units.name(i)
     }
 
     // Level k: C, ADMD, PRMD, O, OU1 to OU4.
@@ -162,8 +159,6 @@ impl Record {
         if k < OWN_LEVELS {
             return self.single(k);
         }
-        let unit = self.unit(k - OWN_LEVELS);
-        let bytes = unit.bytes;
-        Value::of(held(&bytes, unit.len))
+        Value::of(self.unit(k - OWN_LEVELS).text())
     }
 }

@@ -1,36 +1,26 @@
 // The texts of a record, by value: a length and the room for the longest. The bytes past the length are 0 in every one
 // that is made here.
-ghost use Rattle.std.specs.Prelude.{◌≡◌, ◌≤◌, min, length, take};
-ghost use Rattle.oraddr.specs.Bounds.{bound_of, dd_type, dd_value, O, OU};
-ghost use Rattle.oraddr.specs.View.{dd_value_of, dd_value_view, kind_of, kind_view, org_unit_of, unit_view, value_of, value_view};
+ghost use Rattle.std.specs.Prelude.{◌≡◌, ◌≤◌, length, take};
+ghost use Rattle.oraddr.specs.View.{held_text, text_of};
 
 use crate::bounds::{DD_TYPE_ROOM, DD_VALUE_ROOM, OU_ROOM, VALUE_ROOM};
 use chars::write::put;
 
+// A text in a room of N bytes: by value and in fixed memory, so its length stands beside the room.
+#[derive(Clone, Copy)]
+pub struct Text<const N: usize> {
+    pub len: usize,
+    pub bytes: [u8; N],
+}
+
 // The value of an attribute that a record has once.
-#[derive(Clone, Copy)]
-pub struct Value {
-    pub len: usize,
-    pub bytes: [u8; VALUE_ROOM],
-}
+pub type Value = Text<VALUE_ROOM>;
 
-#[derive(Clone, Copy)]
-pub struct OrgUnit {
-    pub len: usize,
-    pub bytes: [u8; OU_ROOM],
-}
+pub type OrgUnit = Text<OU_ROOM>;
 
-#[derive(Clone, Copy)]
-pub struct DdType {
-    pub len: usize,
-    pub bytes: [u8; DD_TYPE_ROOM],
-}
+pub type DdType = Text<DD_TYPE_ROOM>;
 
-#[derive(Clone, Copy)]
-pub struct DdValue {
-    pub len: usize,
-    pub bytes: [u8; DD_VALUE_ROOM],
-}
+pub type DdValue = Text<DD_VALUE_ROOM>;
 
 // A domain defined attribute.
 #[derive(Clone, Copy)]
@@ -39,88 +29,34 @@ pub struct DomainDefined {
     pub value: DdValue,
 }
 
-// How much of its room a text takes whose length may be anything.
-pub fn within(len: usize, room: usize) -> usize
-    ensures { result ≡ min len room }
-{
-    if len < room { len } else { room }
-}
-
-// The text at the front of a room, its length being anything.
-pub fn held(room: &[u8], len: usize) -> &[u8]
+// What stands at the front of a room, its length being anything.
+pub fn held<T>(room: &[T], len: usize) -> &[T]
     ensures { result.now ≡ take len room.now }
 {
-    if room.len() < len {
-        return room;
-    }
-    &room[..len]
+    &room[..len.min(room.len())]
 }
 
-impl Value {
-    pub fn of(text: &[u8]) -> Value
-        requires { length text.now ≤ bound_of O }
-        ensures { result ≡ value_of text.now }
+impl<const N: usize> Text<N> {
+    pub fn of(text: &[u8]) -> Self
+        requires { length text.now ≤ N }
+        ensures { result ≡ text_of N text.now }
     {
-        let mut bytes = [0u8; VALUE_ROOM];
+        let mut bytes = [0u8; N];
         let len = put(&mut bytes, 0, text);
-        Value { len, bytes }
+        Text { len, bytes }
     }
 
     // How many bytes its text has.
     pub fn size(self) -> usize
-        ensures { result ≡ length (value_view self) }
+        ensures { result ≡ length (held_text self.entry) }
     {
-        within(self.len, VALUE_ROOM)
-    }
-}
-
-impl OrgUnit {
-    pub fn of(text: &[u8]) -> OrgUnit
-        requires { length text.now ≤ bound_of OU }
-        ensures { result ≡ org_unit_of text.now }
-    {
-        let mut bytes = [0u8; OU_ROOM];
-        let len = put(&mut bytes, 0, text);
-        OrgUnit { len, bytes }
+        self.len.min(N)
     }
 
-    pub fn size(self) -> usize
-        ensures { result ≡ length (unit_view self) }
+    // The text that it holds.
+    pub fn text(&self) -> &[u8]
+        ensures { result.now ≡ held_text self.now }
     {
-        within(self.len, OU_ROOM)
-    }
-}
-
-impl DdType {
-    pub fn of(text: &[u8]) -> DdType
-        requires { length text.now ≤ bound_of dd_type }
-        ensures { result ≡ kind_of text.now }
-    {
-        let mut bytes = [0u8; DD_TYPE_ROOM];
-        let len = put(&mut bytes, 0, text);
-        DdType { len, bytes }
-    }
-
-    pub fn size(self) -> usize
-        ensures { result ≡ length (kind_view self) }
-    {
-        within(self.len, DD_TYPE_ROOM)
-    }
-}
-
-impl DdValue {
-    pub fn of(text: &[u8]) -> DdValue
-        requires { length text.now ≤ bound_of dd_value }
-        ensures { result ≡ dd_value_of text.now }
-    {
-        let mut bytes = [0u8; DD_VALUE_ROOM];
-        let len = put(&mut bytes, 0, text);
-        DdValue { len, bytes }
-    }
-
-    pub fn size(self) -> usize
-        ensures { result ≡ length (dd_value_view self) }
-    {
-        within(self.len, DD_VALUE_ROOM)
+        held(&self.bytes, self.len)
     }
 }

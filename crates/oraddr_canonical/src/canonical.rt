@@ -1,172 +1,108 @@
 // The canonical test, part by part. A record is any input: one with a length or a count out of range is not canonical.
-ghost use Rattle.std.specs.Prelude.{◌≡◌, ◌&&◌, ◌<◌, leb, length, take};
+// An attribute's number is bounded where it is used: it indexes the one table of bounds, and loops count over it.
+ghost use Rattle.std.specs.Prelude.{◌≡◌, ◌&&◌, ◌<◌};
 ghost use Rattle.chars.specs.Lists.{non_empty};
 ghost use Rattle.oraddr.specs.Attributes.{single_of};
-ghost use Rattle.oraddr.specs.Bounds.{O as o_bound, OU as ou_bound, bound_of, entries, is_value, single_count};
+ghost use Rattle.oraddr.specs.Bounds.{entries, is_value, single_count};
 ghost use Rattle.oraddr.specs.Canonical.{canonical_dds, canonical_record, canonical_singles, canonical_units, identified, is_dd, is_unit, kept, names_with_surname};
-ghost use Rattle.oraddr.specs.View.{dd_in_range, dd_view, unit_view, value_view, view};
+ghost use Rattle.oraddr.specs.View.{dd_in_range, dd_view, held_text, text_in_range, value_view, unit_view, view};
 
 use oraddr::bounds::{
-    ADMD, C, CN, DD_TYPE, DD_VALUE, G, GQ, I, MOST, OU, S, SINGLES, VALUE_ROOM, is_value,
-    keeps_rule,
+    ADMD, C, CN, DD_TYPE, DD_VALUE, G, GQ, I, MOST, OU, S, VALUE_ROOM, is_value, keeps_rule,
 };
 use oraddr::record::{Dds, Record, Singles, Units};
-use oraddr::value::{DomainDefined, OrgUnit, Value};
+use oraddr::value::{DomainDefined, OrgUnit, Text, Value};
 
-// Whether the text at the front of a room is in range, and a value within bound k.
-fn is_held(k: usize, room: &[u8], len: usize) -> bool
-    requires k_lt_entries { k < entries }
-    requires room_len { length room.now ≡ bound_of k }
-    ensures { result ≡ (leb len (bound_of k) && is_value k (take len room.now)) }
+// Whether a text is in range, and a value within bound k.
+fn is_held<const N: usize>(k: usize, text: &Text<N>) -> bool
+    requires { k < entries }
+    ensures { result ≡ (text_in_range text.now && is_value k (held_text text.now)) }
 {
-    if room.len() < len {
-        return false;
-    }
-    is_value(k, &room[..len])
+    text.len <= N && is_value(k, text.text())
 }
 
 // In range, and absent or by the rule of the attribute with the number k.
-fn is_kept(k: usize, value: Value) -> bool
+#[tactic(auto, unfolding(oraddr::specs::Canonical::kept, chars::specs::Lists::non_empty))]
+fn is_kept(k: usize, value: &Value) -> bool
     requires { k < single_count }
-    ensures { result ≡ (leb value.len (bound_of o_bound) && kept k (value_view value)) }
+    ensures { result ≡ (text_in_range value.now && kept k (value_view value.now)) }
 {
-    let len = value.len;
-    if len == 0 {
-        return true;
-    }
-    if VALUE_ROOM < len {
-        return false;
-    }
-    let bytes = value.bytes;
-    keeps_rule(k, &bytes[..len])
+    value.len == 0 || value.len <= VALUE_ROOM && keeps_rule(k, value.text())
 }
 
-fn is_unit(name: OrgUnit) -> bool
-    ensures { result ≡ (leb name.len (bound_of ou_bound) && is_unit (unit_view name)) }
+#[tactic(auto, unfolding(oraddr::specs::Canonical::is_unit))]
+fn is_unit(name: &OrgUnit) -> bool
+    ensures { result ≡ (text_in_range name.now && is_unit (unit_view name.now)) }
 {
-    let bytes = name.bytes;
-    is_held(OU, &bytes, name.len)
+    is_held(OU, name)
 }
 
-fn is_dd(item: DomainDefined) -> bool
-    ensures { result ≡ (dd_in_range item && is_dd (dd_view item)) }
+#[tactic(auto, unfolding(oraddr::specs::View::dd_in_range, oraddr::specs::View::dd_view, oraddr::specs::Canonical::is_dd))]
+fn is_dd(item: &DomainDefined) -> bool
+    ensures { result ≡ (dd_in_range item.now && is_dd (dd_view item.now)) }
 {
-    let kind = item.kind;
-    let kind_room = kind.bytes;
-    if !is_held(DD_TYPE, &kind_room, kind.len) {
-        return false;
-    }
-    let value = item.value;
-    let value_room = value.bytes;
-    is_held(DD_VALUE, &value_room, value.len)
+    is_held(DD_TYPE, &item.kind) && is_held(DD_VALUE, &item.value)
 }
 
-fn canonical_singles(all: Singles) -> bool
-    ensures { result ≡ canonical_singles all }
+fn canonical_singles(all: &Singles) -> bool
+    ensures { result ≡ canonical_singles all.now }
 {
-    let mut k = 0;
-    while k < SINGLES {
-        if !is_kept(k, all.values[k]) {
-            return false;
-        }
-        k += 1;
-    }
-    true
+    all.values
+        .iter()
+        .enumerate()
+        .all(|(k, value)| is_kept(k, value))
 }
 
-fn canonical_units(units: Units) -> bool
-    ensures { result ≡ canonical_units units }
+#[tactic(auto, unfolding(oraddr::specs::Canonical::canonical_units, oraddr::specs::View::units_in_range))]
+fn canonical_units(units: &Units) -> bool
+    ensures { result ≡ canonical_units units.now }
 {
     let count = units.count;
-    if MOST < count {
-        return false;
-    }
-    let mut i = 0;
-    while i < count {
-        if !is_unit(units.names[i]) {
-            return false;
-        }
-        i += 1;
-    }
-    true
+    count <= MOST && units.names[..count].iter().all(is_unit)
 }
 
-fn canonical_dds(dds: Dds) -> bool
-    ensures { result ≡ canonical_dds dds }
+#[tactic(auto, unfolding(oraddr::specs::Canonical::canonical_dds, oraddr::specs::View::dds_in_range))]
+fn canonical_dds(dds: &Dds) -> bool
+    ensures { result ≡ canonical_dds dds.now }
 {
     let count = dds.count;
-    if MOST < count {
-        return false;
-    }
-    let mut i = 0;
-    while i < count {
-        if !is_dd(dds.items[i]) {
-            return false;
-        }
-        i += 1;
-    }
-    true
+    count <= MOST && dds.items[..count].iter().all(is_dd)
 }
 
 // Whether the attribute with the number k is present.
-fn has(rec: Record, k: usize) -> bool
+#[tactic(auto, unfolding(oraddr::specs::Attributes::single_of, oraddr::specs::View::view, chars::specs::Lists::non_empty), using(oraddr::proofs::Laws::View::single_view))]
+fn has(rec: &Record, k: usize) -> bool
     requires { k < single_count }
-    ensures { result ≡ non_empty (single_of (view rec) k) }
+    ensures { result ≡ non_empty (single_of (view rec.now) k) }
 {
-    0 < rec.single(k).size()
+    !rec.singles.values[k].text().is_empty()
 }
 
 // G, I and GQ only with S.
-fn has_names_with_surname(rec: Record) -> bool
-    ensures { result ≡ names_with_surname (view rec) }
+#[tactic(auto, unfolding(oraddr::specs::Canonical::names_with_surname))]
+fn has_names_with_surname(rec: &Record) -> bool
+    ensures { result ≡ names_with_surname (view rec.now) }
 {
-    let surname = has(rec, S);
-    if surname {
-        return true;
-    }
-    if has(rec, G) {
-        return false;
-    }
-    if has(rec, I) {
-        return false;
-    }
-    !has(rec, GQ)
+    has(rec, S) || !has(rec, G) && !has(rec, I) && !has(rec, GQ)
 }
 
 // S, a common name or at least one DD.
-fn is_identified(rec: Record) -> bool
-    ensures { result ≡ identified (view rec) }
+#[tactic(auto, unfolding(oraddr::specs::Canonical::identified, oraddr::specs::View::view, oraddr::specs::View::dds_view, chars::specs::Lists::non_empty))]
+fn is_identified(rec: &Record) -> bool
+    ensures { result ≡ identified (view rec.now) }
 {
-    if has(rec, S) {
-        return true;
-    }
-    if has(rec, CN) {
-        return true;
-    }
-    let dds = rec.dds;
-    0 < dds.size()
+    has(rec, S) || has(rec, CN) || 0 < rec.dds.size()
 }
 
+#[tactic(auto, using(crate::proofs::Laws::record_order))]
 pub fn is_canonical(rec: Record) -> bool
     ensures { result ≡ canonical_record rec }
 {
-    if !has(rec, C) {
-        return false;
-    }
-    if !has(rec, ADMD) {
-        return false;
-    }
-    if !canonical_singles(rec.singles) {
-        return false;
-    }
-    if !canonical_units(rec.units) {
-        return false;
-    }
-    if !canonical_dds(rec.dds) {
-        return false;
-    }
-    if !has_names_with_surname(rec) {
-        return false;
-    }
-    is_identified(rec)
+    has(&rec, C)
+        && has(&rec, ADMD)
+        && canonical_singles(&rec.singles)
+        && canonical_units(&rec.units)
+        && canonical_dds(&rec.dds)
+        && has_names_with_surname(&rec)
+        && is_identified(&rec)
 }

@@ -24,20 +24,16 @@ pub record Paid (l : TableOutcome) (over : Bool) (s : List ℕ) (last : Bool) (o
   pub text : List ℕ
   pub owed : Owed l over s last text over' s'
 
--- The end of a run because a read or a write failed. What was left of the input is not answered.
-abbrev pub stopped : Waiting
-stopped = record { over = false; size = 0; ended = true; failed = true }
-
 -- All that can be answered was: in what is left there is nothing to answer yet. The run ends with the last part.
 pub record Answered (l : TableOutcome) (over : Bool) (s : List ℕ) (last : Bool) (r : Waiting) (s' : List ℕ) : Type 0 where
   pub paid : Paid l over s last r.over s'
   pub waits : Waits last s'
   pub ends : r.ended ≡ last
 
--- What `answer` comes to: unless a write failed, all was answered. In any case there is room behind what is left.
+-- What `answer` comes to, unless a write failed: all was answered, and there is room behind what is left.
 pub record Answering (l : TableOutcome) (over : Bool) (s : List ℕ) (last : Bool) (r : Waiting) (s' : List ℕ) : Type 0 where
   pub short : r.size ≤ longest_line
-  pub answered : r.failed ≡ false → Answered l over s last r s'
+  pub answered : Answered l over s last r s'
 
 -- Some of the input has arrived behind s, and was answered with it. It is the last of it just where it is nothing.
 pub record Arrived (l : TableOutcome) (over : Bool) (s : List ℕ) (r : Waiting) (s' : List ℕ) : Type 0 where
@@ -50,4 +46,4 @@ pub record Arrived (l : TableOutcome) (over : Bool) (s : List ℕ) (r : Waiting)
 -- What `step` comes to from what waited, unless a read or a write failed.
 pub record Stepping (l : TableOutcome) (over : Bool) (s : List ℕ) (r : Waiting) (s' : List ℕ) : Type 0 where
   pub short : r.size ≤ longest_line
-  pub arrived : r.failed ≡ false → Arrived l over s r s'
+  pub arrived : Arrived l over s r s'

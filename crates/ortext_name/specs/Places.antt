@@ -1,12 +1,15 @@
 -- What the readers' answers by places stand for.
 -- Assumes nothing.
-use Rattle.std.specs.Prelude.{◌≡◌, ℕ, zero, suc, ◌+◌, ◌*◌, ◌≤◌, cond, List, [], ◌∷◌, length, take, drop}
+use Rattle.std.specs.Prelude.{◌≡◌, ℕ, zero, suc, ◌+◌, ◌*◌, ◌≤◌, cond, List, [], ◌∷◌, length, take, drop, Option, None, Some}
 use Rattle.std.proofs.Math.Option.{none, some}
 use Rattle.chars.specs.Parts.{run}
 use Rattle.ortext_name.specs.Name.{Name, has_given, read_name}
+use Rattle.ortext_name.specs.declared.name.Name.{Name as Pieces}
 use Rattle.ortext_name.specs.declared.name.NamePlaces.{NamePlaces}
-use Rattle.ortext_name.specs.declared.name.NameRead.{NameRead}
-use Rattle.ortext_name.specs.declared.name.NameRead.TheVariants.{Name as NameFound, NoName}
+
+-- the name that the code holds by its pieces
+abbrev pub name_view : Pieces → Name
+name_view n = record { given = n.given.now; initials = n.initials.now; surname = n.surname.now }
 
 -- every other byte, n of them: letters that stand each with a dot
 unfoldable pub letters_at : ℕ → List ℕ → List ℕ
@@ -38,6 +41,6 @@ pub record Placed (s : List ℕ) (p : NamePlaces) : Type 0 where
   pub surname : p.surname ≤ length s
 
 -- a name, or that the text is none
-unfoldable pub NameReading : List ℕ → NameRead → Type 0
-NameReading s (NameFound p) = Placed s p
-NameReading s NoName = read_name s ≡ none
+unfoldable pub NameReading : List ℕ → Option NamePlaces → Type 0
+NameReading s (Some p) = Placed s p
+NameReading s None = read_name s ≡ none

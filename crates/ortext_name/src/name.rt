@@ -3,10 +3,10 @@ ghost use Rattle.std.specs.Prelude.{◌≡◌, [], ◌++◌, ◌+◌, ◌*◌, �
 ghost use Rattle.chars.specs.Lists.{first, member};
 ghost use Rattle.chars.specs.Write.{Wrote};
 ghost use Rattle.ortext_name.specs.Name.{dot_allowed, dotted, given_short, given_text, initials_of, is_short, name_text};
-ghost use Rattle.ortext_name.specs.Places.{NameReading, given_end, letters_at};
+ghost use Rattle.ortext_name.specs.Places.{NameReading, given_end, letters_at, name_view};
 
 use chars::class::{Class, all_in, is_letter};
-use chars::parts::part_end;
+use chars::parts::{byte_at, part_end};
 use chars::write::put;
 
 // Where the pieces of a name stand in its text: the given name in front, its length 0 where there is none; the initials,
@@ -19,32 +19,17 @@ pub struct NamePlaces {
     pub surname: usize,
 }
 
-#[derive(Clone, Copy)]
-pub enum NameRead {
-    Name(NamePlaces),
-    NoName,
-}
-
-// How many initials stand from a place on.
-fn count_initials(s: &[u8], from: usize) -> usize
-    ensures { result ≡ length (initials_of (drop from s.now)) }
+// How many initials stand at the front of `s`.
+fn count_initials(s: &[u8]) -> usize
+    ensures { result ≡ length (initials_of s.now) }
 {
-    let mut n = 0;
-    let mut i = from;
-    while i < s.len() {
-        if s.len() - i < 2 {
+    let most = s.len() / 2;
+    for n in 0..most {
+        if !is_letter(s[2 * n]) || s[2 * n + 1] != b'.' {
             return n;
         }
-        if !is_letter(s[i]) {
-            return n;
-        }
-        if s[i + 1] != b'.' {
-            return n;
-        }
-        n += 1;
-        i += 2;
     }
-    n
+    most
 }
 
 // Where the initials start: after a given name of two characters or more and its dot, or at the front.
@@ -52,28 +37,25 @@ fn after_given(s: &[u8]) -> usize
     ensures { result ≡ given_end s.now }
 {
     let dot = part_end(s, 0, b'.');
-    if dot < 2 {
-        return 0;
+    if 2 <= dot && dot < s.len() {
+        dot + 1
+    } else {
+        0
     }
-    if dot < s.len() {
-        return dot + 1;
-    }
-    0
 }
 
 // The pieces of the name that `s` is.
-pub fn read_name(s: &[u8]) -> NameRead
+pub fn read_name(s: &[u8]) -> Option<NamePlaces>
     ensures { NameReading s.now result }
 {
     let from = after_given(s);
-    let initials = count_initials(s, from);
+    let initials = count_initials(&s[from..]);
     let surname = from + 2 * initials;
     if s.len() <= surname {
-        return NameRead::NoName;
+        return None;
     }
-    let given = if from == 0 { 0 } else { from - 1 };
-    NameRead::Name(NamePlaces {
-        given,
+    Some(NamePlaces {
+        given: from.saturating_sub(1),
         from,
         initials,
         surname,
@@ -82,14 +64,12 @@ pub fn read_name(s: &[u8]) -> NameRead
 
 // Copies n initials, which stand each with a dot from a place on, to the front of `dst`.
 pub fn put_initials(dst: &mut [u8], s: &[u8], from: usize, n: usize)
-    requires n_in_bounds { from + 2 * n ≤ length s.now }
-    requires n_in_bounds_2 { n ≤ length dst.old }
+    requires places { from + 2 * n ≤ length s.now }
+    requires room { n ≤ length dst.old }
     ensures { dst.new ≡ letters_at n (drop from s.now) ++ drop n dst.old }
 {
-    let mut i = 0;
-    while i < n {
+    for i in 0..n {
         dst[i] = s[from + 2 * i];
-        i += 1;
     }
 }
 
@@ -100,70 +80,11 @@ fn has_dot(s: &[u8]) -> bool
     part_end(s, 0, b'.') < s.len()
 }
 
-// Whether the dots of a surname leave the short form readable: none, or none in its first two characters and a given name or
-// initials in front.
-fn is_dot_allowed(given: &[u8], initials: &[u8], surname: &[u8]) -> bool
-    ensures { result ≡ dot_allowed (record { given = given.entry.now; initials = initials.now; surname = surname.now }) }
-{
-    let dot = part_end(surname, 0, b'.');
-    if surname.len() <= dot {
-        return true;
-    }
-    if dot < 2 {
-        return false;
-    }
-    if 0 < given.len() {
-        return true;
-    }
-    0 < initials.len()
-}
-
-// The first byte of the short form, or 0.
-fn first_byte(given: &[u8], initials: &[u8], surname: &[u8]) -> u8
-    ensures { result ≡ first (name_text (record { given = given.entry.now; initials = initials.now; surname = surname.now })) }
-{
-    if 0 < given.len() {
-        return given[0];
-    }
-    if 0 < initials.len() {
-        return initials[0];
-    }
-    if 0 < surname.len() {
-        return surname[0];
-    }
-    0
-}
-
 // Whether a given name may stand in the short form: absent, or two characters or more and no dot.
 fn is_given_short(given: &[u8]) -> bool
     ensures { result ≡ given_short given.now }
 {
-    if given.len() == 0 {
-        return true;
-    }
-    if given.len() < 2 {
-        return false;
-    }
-    !has_dot(given)
-}
-
-// Whether a name with no generation is written in the short form.
-pub fn is_short(given: &[u8], initials: &[u8], surname: &[u8]) -> bool
-    ensures { result ≡ is_short (record { given = given.entry.now; initials = initials.now; surname = surname.now }) [] }
-{
-    if surname.len() == 0 {
-        return false;
-    }
-    if !all_in(initials, Class::Letter) {
-        return false;
-    }
-    if !is_given_short(given) {
-        return false;
-    }
-    if !is_dot_allowed(given, initials, surname) {
-        return false;
-    }
-    first_byte(given, initials, surname) != b'/'
+    given.is_empty() || 2 <= given.len() && !has_dot(given)
 }
 
 // Writes each initial with a dot.
@@ -171,13 +92,11 @@ fn put_dotted(dst: &mut [u8], at: usize, initials: &[u8]) -> usize
     requires { at + 2 * length initials.now ≤ length dst.old }
     ensures { Wrote dst.old at (dotted initials.now) result dst.new }
 {
-    let mut i = 0;
-    while i < initials.len() {
-        dst[at + 2 * i] = initials[i];
+    for (i, letter) in initials.iter().enumerate() {
+        dst[at + 2 * i] = *letter;
         dst[at + 2 * i + 1] = b'.';
-        i += 1;
     }
-    at + 2 * i
+    at + 2 * initials.len()
 }
 
 // Writes the given name and its dot, if there is one.
@@ -185,7 +104,7 @@ fn put_given(dst: &mut [u8], at: usize, given: &[u8]) -> usize
     requires { at + length (given_text given.now) ≤ length dst.old }
     ensures { Wrote dst.old at (given_text given.now) result dst.new }
 {
-    if given.len() == 0 {
+    if given.is_empty() {
         return at;
     }
     let dot = put(dst, at, given);
@@ -193,12 +112,56 @@ fn put_given(dst: &mut [u8], at: usize, given: &[u8]) -> usize
     dot + 1
 }
 
-// Writes the short form of a name.
-pub fn put_name(dst: &mut [u8], at: usize, given: &[u8], initials: &[u8], surname: &[u8]) -> usize
-    requires { at + length (name_text (record { given = given.now; initials = initials.now; surname = surname.now })) ≤ length dst.old }
-    ensures { Wrote dst.old at (name_text (record { given = given.entry.now; initials = initials.now; surname = surname.now })) result dst.new }
-{
-    let a = put_given(dst, at, given);
-    let b = put_dotted(dst, a, initials);
-    put(dst, b, surname)
+// A personal name: what is absent is empty.
+#[derive(Clone, Copy)]
+pub struct Name<'a> {
+    pub given: &'a [u8],
+    pub initials: &'a [u8],
+    pub surname: &'a [u8],
+}
+
+impl Name<'_> {
+    // Whether the dots of the surname leave the short form readable: none, or none in its first two characters and a given name or
+    // initials in front.
+    fn is_dot_allowed(&self) -> bool
+        ensures { result ≡ dot_allowed (name_view self.now) }
+    {
+        let dot = part_end(self.surname, 0, b'.');
+        self.surname.len() <= dot
+            || 2 <= dot && !(self.given.is_empty() && self.initials.is_empty())
+    }
+
+    // The first byte of the short form, or 0.
+    fn first_byte(&self) -> u8
+        ensures { result ≡ first (name_text (name_view self.now)) }
+    {
+        if !self.given.is_empty() {
+            self.given[0]
+        } else if !self.initials.is_empty() {
+            self.initials[0]
+        } else {
+            byte_at(self.surname, 0)
+        }
+    }
+
+    // Whether the name, with no generation, is written in the short form.
+    pub fn is_short(&self) -> bool
+        ensures { result ≡ is_short (name_view self.now) [] }
+    {
+        !self.surname.is_empty()
+            && all_in(self.initials, Class::Letter)
+            && is_given_short(self.given)
+            && self.is_dot_allowed()
+            && self.first_byte() != b'/'
+    }
+
+    // Writes the short form of the name.
+    pub fn put(&self, dst: &mut [u8], at: usize) -> usize
+        requires { at + length (name_text (name_view self.now)) ≤ length dst.old }
+        ensures { Wrote dst.old at (name_text (name_view self.now)) result dst.new }
+    {
+        let a = put_given(dst, at, self.given);
+        let b = put_dotted(dst, a, self.initials);
+        put(dst, b, self.surname)
+    }
 }

@@ -6,7 +6,7 @@ use Rattle.ortext_segments.specs.Keys.{ou_key, dd_key, pn_key}
 use Rattle.ortext_segments.specs.Segments.{unknown}
 use Rattle.ortext_segments.specs.Scan.{span_text}
 use Rattle.ortext_segments.specs.declared.scan.Span.{Span}
-use Rattle.ortext_segments.specs.declared.scan.Found.{Found}
+use Rattle.ortext_segments.specs.declared.scan.Segment.{Segment as Found}
 use Rattle.ortext_named.specs.declared.named.DdPlaces.{DdPlaces}
 use Rattle.ortext_named.specs.declared.named.Named.{Named}
 

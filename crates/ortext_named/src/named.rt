@@ -5,7 +5,7 @@ ghost use Rattle.ortext_named.specs.Named.{is_absent, is_beside, nothing, take_f
 
 use oraddr::bounds::{G, GQ, I, MOST, OWN_LEVELS, S};
 use ortext_segments::keys::{DD_KEY, OU_KEY, PN_KEY, UNKNOWN};
-use ortext_segments::scan::{Found, NO_SPAN, Span};
+use ortext_segments::scan::{NO_SPAN, Segment, Span};
 
 // The places of a DD's type and value.
 #[derive(Clone, Copy)]
@@ -16,7 +16,8 @@ pub struct DdPlaces {
 
 // The places of what is named: under the keys that stand once, by their numbers (those of OU and DD stay empty); and the
 // units and the DDs in the order of the text. `again`: a settled level is named. `bad`: a key is unknown or repeated, a value
-// is empty, or a fifth unit or DD is named.
+// is empty, or a fifth unit or DD is named. (Two flags and no enum: both may hold, and what is read of a text asks for `again` first. The counts
+// stand beside arrays: there is no heap.)
 #[derive(Clone, Copy)]
 pub struct Named {
     pub once: [Span; UNKNOWN],
@@ -32,20 +33,14 @@ pub struct Named {
 fn is_settled(key: usize, n: usize) -> bool
     ensures { result ≡ not (leb (min n own_levels) key) }
 {
-    if n < OWN_LEVELS {
-        return key < n;
-    }
-    key < OWN_LEVELS
+    key < n.min(OWN_LEVELS)
 }
 
 // Whether what stands once can be taken: it is the first, and it is not empty.
 fn is_free(there: Span, value: Span) -> bool
     ensures { result ≡ (is_absent there && not (is_absent value)) }
 {
-    if value.len == 0 {
-        return false;
-    }
-    there.len == 0
+    there.len == 0 && value.len != 0
 }
 
 impl Named {
@@ -68,7 +63,8 @@ impl Named {
 
     // What is named when a further segment has been read, the first n levels being settled. All of it stands here, since each method in
     // between would copy `self`.
-    pub fn with(mut self, f: Found, n: usize) -> Named
+    #[tactic(auto, unfolding(crate::specs::Named::take_found, crate::specs::Named::with_found, crate::specs::Named::with_once, crate::specs::Named::with_unit, crate::specs::Named::with_dd))]
+    pub fn with(mut self, f: Segment, n: usize) -> Named
         ensures { result ≡ take_found n self f }
     {
         let key = f.key;
@@ -98,39 +94,21 @@ impl Named {
             self.dd_count = count + 1;
             return self;
         }
-        if UNKNOWN <= key {
+        if key < UNKNOWN && is_free(self.once[key], value) {
+            self.once[key] = value;
+        } else {
             self.bad = true;
-            return self;
         }
-        if !is_free(self.once[key], value) {
-            self.bad = true;
-            return self;
-        }
-        self.once[key] = value;
         self
     }
 
     // Whether PN is named beside S, G, I or GQ.
+    #[tactic(auto, unfolding(crate::specs::Named::is_beside))]
     pub fn is_beside(self) -> bool
         ensures { result ≡ is_beside self }
     {
-        let pn = self.once[PN_KEY];
-        if pn.len == 0 {
-            return false;
-        }
-        let surname = self.once[S];
-        if surname.len != 0 {
-            return true;
-        }
-        let given = self.once[G];
-        if given.len != 0 {
-            return true;
-        }
-        let initials = self.once[I];
-        if initials.len != 0 {
-            return true;
-        }
-        let generation = self.once[GQ];
-        generation.len != 0
+        let once = &self.once;
+        once[PN_KEY].len != 0
+            && (once[S].len != 0 || once[G].len != 0 || once[I].len != 0 || once[GQ].len != 0)
     }
 }

@@ -1,7 +1,7 @@
 -- What the readers' answers stand for. Document 01: "Where an answer is an enum, a definition gives this paper's number and values for each
 -- case of the enum, and the promises use that definition."
 -- Assumes nothing.
-use Rattle.std.specs.Prelude.{ℕ, ◌||◌, cond, List}
+use Rattle.std.specs.Prelude.{ℕ, ◌||◌, cond, List, Result, Ok, Err}
 use Rattle.oraddr.specs.View.{empty_record}
 use Rattle.oraddr.specs.declared.record.Record.{Record}
 use Rattle.ortext_named.specs.Named.{is_beside}
@@ -9,26 +9,33 @@ use Rattle.ortext_named.specs.declared.named.Named.{Named}
 use Rattle.ortext_build.specs.Adding.{add_held}
 use Rattle.ortext_read.specs.Apply as apply
 use Rattle.ortext_read.specs.Apply.{unread, refused, again, read, finish}
-use Rattle.ortext_read.specs.declared.read.Answer.{Answer}
-use Rattle.ortext_read.specs.declared.read.Answer.TheVariants.{Done, Unread, Refused, Again}
-use Rattle.ortext_read.specs.declared.read.Reading.{Reading}
+use Rattle.ortext_read.specs.declared.read.TextFault.{TextFault}
+use Rattle.ortext_read.specs.declared.read.TextFault.TheVariants.{Unread, Refused, Again}
 
-unfoldable pub answered : Answer → Record → apply.Reading
-answered Done r = read r
-answered Unread r = unread
-answered Refused r = refused
-answered Again r = again
+unfoldable pub fault_reading : TextFault → apply.Reading
+fault_reading Unread = unread
+fault_reading Refused = refused
+fault_reading Again = again
 
-unfoldable pub reading : Reading → apply.Reading
-unfolding answered
-reading r = answered r.answer r.record
+unfoldable pub reading : Result Record TextFault → apply.Reading
+unfolding fault_reading
+reading (Ok r) = read r
+reading (Err f) = fault_reading f
 
--- 0, "done"; 4, "the record (or record text) is not canonical": for an address it then says that the address is carried whole
-abbrev pub answer_number : Answer → ℕ
-answer_number Done = 0
-answer_number Unread = 4
-answer_number Refused = 4
-answer_number Again = 4
+-- 4, "the record (or record text) is not canonical": for an address it then says that the address is carried whole
+abbrev pub fault_number : TextFault → ℕ
+fault_number Unread = 4
+fault_number Refused = 4
+fault_number Again = 4
+
+-- 0, "done"
+abbrev pub answer_number : Result Record TextFault → ℕ
+answer_number (Ok r) = 0
+answer_number (Err f) = fault_number f
+
+abbrev pub record_of : Result Record TextFault → Record
+record_of (Ok r) = r
+record_of (Err f) = empty_record
 
 -- What a caller gets of a reader: the number, the record with 0 (else an empty one), and which of the refusals it was.
 pub record ReadingResult : Type 0 where
@@ -36,8 +43,8 @@ pub record ReadingResult : Type 0 where
   pub record' : Record
   pub outcome : apply.Reading
 
-abbrev pub told_reading : Reading → ReadingResult
-told_reading r = record { number = answer_number r.answer; record' = r.record; outcome = reading r }
+abbrev pub told_reading : Result Record TextFault → ReadingResult
+told_reading r = record { number = answer_number r; record' = record_of r; outcome = reading r }
 
 -- the same of what the definitions give
 unfoldable pub reading_result : apply.Reading → ReadingResult

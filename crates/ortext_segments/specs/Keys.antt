@@ -1,12 +1,11 @@
 -- The keys of record text: one table, which the reader and the writer share. The definitions take it as a parameter, since
 -- another edition has other keys.
 -- Assumes nothing.
-use Rattle.std.specs.Prelude.{ℕ, suc, ◌≤◌, ◌≡◌, Bool, cond, List, [], ◌∷◌, length, take}
+use Rattle.std.specs.Prelude.{ℕ, suc, Bool, cond, List, [], ◌∷◌, length, ltb, Option, None, Some}
 use Rattle.chars.specs.Lists.{bytes}
 use Rattle.chars.specs.Class.{is_label_char}
 use Rattle.chars.specs.Case.{same_text}
 use Rattle.chars.specs.Parts.{is_part}
-use Rattle.ortext_segments.specs.declared.keys.KeyName.{KeyName}
 
 -- The numbers of keys: first the attributes that a record has once (`single_count`), by their numbers in the table of bounds; then these.
 abbrev pub ou_key : ℕ
@@ -36,16 +35,16 @@ keys =
 abbrev pub key_count : ℕ
 key_count = 13
 
--- an entry of the code's table is a key: what it has as its text
-pub record Spells (n : KeyName) (key : List ℕ) : Type 0 where
-  pub fits : n.len ≤ length n.bytes
-  pub text : take n.len n.bytes ≡ key
-
 -- the number of the first entry that a text spells case aside; as many as there are entries where there is none
 unfoldable pub key_number : Keys → List ℕ → ℕ
 unfolding same_text
 key_number [] s = 0
 key_number (k ∷ ks) s = cond (same_text k s) 0 (suc (key_number ks s))
+
+-- the same where there is one
+unfoldable pub key_of : Keys → List ℕ → Option ℕ
+unfolding key_number
+key_of ks s = cond (ltb (key_number ks s) (length ks)) (Some (key_number ks s)) None
 
 -- "A key is one or more letters, digits or hyphens"
 unfoldable pub is_key : List ℕ → Bool

@@ -1,36 +1,27 @@
 -- What the reader of record text answers by places in the text: a span is a start and a length.
 -- Assumes nothing.
-use Rattle.std.specs.Prelude.{◌≡◌, ◌||◌, cond, List, [], ◌∷◌, ℕ, ◌+◌, ◌*◌, ◌≤◌, ◌<◌, eqb, length, get_or, take, drop}
-use Rattle.std.proofs.Math.Option.{Option, none, some}
+use Rattle.std.specs.Prelude.{◌≡◌, ◌||◌, cond, List, [], ◌∷◌, ℕ, ◌+◌, ◌*◌, ◌≤◌, ◌<◌, eqb, length, get_or, take, drop, Option, None, Some}
+use Rattle.std.proofs.Math.Option.{none, some}
 use Rattle.chars.specs.Class.{is_printable}
 use Rattle.ortext_segments.specs.Keys.{keys, dd_key, short_keys}
 use Rattle.ortext_segments.specs.Segments.{Segment, ahead, read_rest, unknown, unquoted}
 use Rattle.ortext_segments.specs.declared.scan.Span.{Span}
-use Rattle.ortext_segments.specs.declared.scan.Found.{Found}
-use Rattle.ortext_segments.specs.declared.scan.SegmentRead.{SegmentRead}
-use Rattle.ortext_segments.specs.declared.scan.SegmentRead.TheVariants.{Segment as SegmentFound, Bad}
-use Rattle.ortext_segments.specs.declared.scan.TextEnd.{TextEnd}
-use Rattle.ortext_segments.specs.declared.scan.TextEnd.TheVariants.{At, Nowhere}
+use Rattle.ortext_segments.specs.declared.scan.Segment.{Segment as Found}
 
 -- further by n
 unfoldable pub further : ℕ → Option ℕ → Option ℕ
-further n none = none
-further n (some k) = some (n + k)
+further n None = None
+further n (Some k) = Some (n + k)
 
 -- how far a type or a value goes: up to the first `/` or `=` that is not quoted; none where there is none, or a `$` quotes
 -- what it may not
 unfoldable pub stop_run : List ℕ → Option ℕ
 unfolding further is_printable
-stop_run [] = none
-stop_run (x ∷ []) = cond (eqb x 47 || eqb x 61) (some 0) none
+stop_run [] = None
+stop_run (x ∷ []) = cond (eqb x 47 || eqb x 61) (Some 0) None
 stop_run (x ∷ y ∷ s) =
-    cond (eqb x 47 || eqb x 61) (some 0)
-    (cond (eqb x 36) (cond (is_printable y) (further 2 (stop_run s)) none) (further 1 (stop_run (y ∷ s))))
-
--- the answer that a place stands for
-unfoldable pub end_at : TextEnd → Option ℕ
-end_at (At e) = some e
-end_at Nowhere = none
+    cond (eqb x 47 || eqb x 61) (Some 0)
+    (cond (eqb x 36) (cond (is_printable y) (further 2 (stop_run s)) None) (further 1 (stop_run (y ∷ s))))
 
 -- what stands at a span, the quoting taken off
 unfoldable pub span_text : List ℕ → Span → List ℕ
@@ -47,27 +38,27 @@ unfolding kind_text span_text
 found_segment s f = record { key = f.key; kind = kind_text s f.key f.kind; value = span_text s f.value }
 
 -- the segment whose value starts at v and goes as far as said: up to a slash, and no other stop
-unfoldable pub value_up_to : List ℕ → ℕ → Span → ℕ → Option ℕ → SegmentRead
-value_up_to s key kind v none = Bad
-value_up_to s key kind v (some n) =
+unfoldable pub value_up_to : List ℕ → ℕ → Span → ℕ → Option ℕ → Option Found
+value_up_to s key kind v None = None
+value_up_to s key kind v (Some n) =
     cond (eqb (get_or s (v + n) 0) 47)
-    (SegmentFound (record { key = key; kind = kind; value = record { start = v; len = n }; next = v + n + 1 }))
-    Bad
+    (Some (record { key = key; kind = kind; value = record { start = v; len = n }; next = v + n + 1 }))
+    None
 
-unfoldable pub value_from : List ℕ → ℕ → Span → ℕ → SegmentRead
+unfoldable pub value_from : List ℕ → ℕ → Span → ℕ → Option Found
 unfolding value_up_to stop_run
 value_from s key kind v = value_up_to s key kind v (stop_run (drop v s))
 
 -- the segment of a DD whose type starts at k and goes as far as said: up to an equals sign, and no other stop
-unfoldable pub kind_up_to : List ℕ → ℕ → Option ℕ → SegmentRead
+unfoldable pub kind_up_to : List ℕ → ℕ → Option ℕ → Option Found
 unfolding value_from
-kind_up_to s k none = Bad
-kind_up_to s k (some n) =
+kind_up_to s k None = None
+kind_up_to s k (Some n) =
     cond (eqb (get_or s (k + n) 0) 61)
     (value_from s dd_key (record { start = k; len = n }) (k + n + 1))
-    Bad
+    None
 
-unfoldable pub kind_from : List ℕ → ℕ → SegmentRead
+unfoldable pub kind_from : List ℕ → ℕ → Option Found
 unfolding kind_up_to stop_run
 kind_from s k = kind_up_to s k (stop_run (drop k s))
 
@@ -85,6 +76,6 @@ pub record Segmented (s : List ℕ) (from : ℕ) (f : Found) : Type 0 where
   pub numbered : f.key ≤ unknown
 
 -- A segment, or that the text does not read.
-unfoldable pub Segmenting : List ℕ → ℕ → SegmentRead → Type 0
-Segmenting s from (SegmentFound f) = Segmented s from f
-Segmenting s from Bad = read_rest keys (drop from s) ≡ none
+unfoldable pub Segmenting : List ℕ → ℕ → Option Found → Type 0
+Segmenting s from (Some f) = Segmented s from f
+Segmenting s from None = read_rest keys (drop from s) ≡ none

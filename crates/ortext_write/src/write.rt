@@ -1,13 +1,15 @@
 // Record text and the short form of a name, written into a buffer with room for them (document 01, "Record to address").
+// An attribute's number is bounded where it is used: it indexes the one table of bounds, and loops count over it.
+// What is written goes to a place of a lent buffer, and where the next goes is told: `dst, at`, as in `put` of chars/src/write.rt.
 ghost use Rattle.std.specs.Prelude.{◌≡◌, not, [], ◌∷◌, map, reverse, ◌+◌, ◌-◌, ◌<◌, ◌≤◌, min, ltb, drop, get_or, length, take};
 ghost use Rattle.chars.specs.Lists.{all, non_empty};
 ghost use Rattle.chars.specs.Write.{Wrote};
 ghost use Rattle.oraddr.specs.View.{dd_view, dds_view, unit_view, units_view, value_view, view};
 ghost use Rattle.oraddr.specs.Bounds.{own_levels, single_count};
 ghost use Rattle.ortext_segments.specs.Keys.{ou_key, pn_key, key_count, keys};
-ghost use Rattle.ortext_name.specs.Name.{is_short, name_text};
+ghost use Rattle.ortext_name.specs.Places.{name_view};
 ghost use Rattle.ortext_write.specs.Write.{dd_segment, has_short, joined, key_value, long_dd, order, plain_segment, quoted, segment_text, segments_at, segments_in};
-ghost use Rattle.ortext_write.specs.Write.{local_text, only_name, record_text, remaining, writes_short};
+ghost use Rattle.ortext_write.specs.Write.{local_text, name_in, only_name, record_text, remaining, writes_short};
 
 use chars::case::same_text;
 use chars::write::put;
@@ -15,8 +17,8 @@ use oraddr::bounds::{
     ADMD, BOUNDS, C, CN, DD_TYPE, DD_VALUE, G, GQ, I, MOST, O, OU, OWN_LEVELS, PRMD, S,
 };
 use oraddr::record::{Dds, Record, Units};
-use oraddr::value::{DomainDefined, OrgUnit, Value};
-use ortext_name::name::{is_short, put_name};
+use oraddr::value::{DomainDefined, OrgUnit};
+use ortext_name::name::Name;
 use ortext_segments::keys::{DD_KEY, OU_KEY, PN_KEY, SHORT_KEYS, key_name};
 use ortext_segments::scan::is_stop;
 
@@ -63,34 +65,20 @@ fn put_quoted(dst: &mut [u8], at: usize, text: &[u8]) -> usize
     ensures { Wrote dst.old at (quoted text.now) result dst.new }
 {
     let mut next = at;
-    let mut i = 0;
-    while i < text.len() {
-        next = put_char(dst, next, text[i]);
-        i += 1;
+    for b in text {
+        next = put_char(dst, next, *b);
     }
     next
 }
 
-// Writes the key with the number k.
-fn put_key_name(dst: &mut [u8], at: usize, k: usize) -> usize
-    requires k_lt_key_count { k < key_count }
-    requires k_in_bounds { at + length (get_or keys k []) ≤ length dst.old }
-    ensures { Wrote dst.old at (get_or keys k []) result dst.new }
-{
-    let name = key_name(k);
-    let n = name.len;
-    let bytes = name.bytes;
-    put(dst, at, &bytes[..n])
-}
-
 // Writes a slash, the key with the number k, an equals sign and a quoted value.
 fn put_segment(dst: &mut [u8], at: usize, k: usize, value: &[u8]) -> usize
-    requires k_lt_key_count { k < key_count }
-    requires value_in_bounds { at + length (key_value (get_or keys k []) value.now) ≤ length dst.old }
+    requires key { k < key_count }
+    requires room { at + length (key_value (get_or keys k []) value.now) ≤ length dst.old }
     ensures { Wrote dst.old at (key_value (get_or keys k []) value.now) result dst.new }
 {
     dst[at] = b'/';
-    let a = put_key_name(dst, at + 1, k);
+    let a = put(dst, at + 1, key_name(k));
     dst[a] = b'=';
     put_quoted(dst, a + 1, value)
 }
@@ -99,10 +87,7 @@ fn put_segment(dst: &mut [u8], at: usize, k: usize, value: &[u8]) -> usize
 fn is_short_kind(kind: &[u8]) -> bool
     ensures { result ≡ has_short keys kind.now }
 {
-    let name = key_name(SHORT_KEYS);
-    let n = name.len;
-    let bytes = name.bytes;
-    same_text(&bytes[..n], kind)
+    same_text(key_name(SHORT_KEYS), kind)
 }
 
 // Writes `/DD.`, the quoted type, an equals sign and the quoted value.
@@ -111,7 +96,7 @@ fn put_long_dd(dst: &mut [u8], at: usize, kind: &[u8], value: &[u8]) -> usize
     ensures { Wrote dst.old at (long_dd keys kind.now value.now) result dst.new }
 {
     dst[at] = b'/';
-    let a = put_key_name(dst, at + 1, DD_KEY);
+    let a = put(dst, at + 1, key_name(DD_KEY));
     dst[a] = b'.';
     let b = put_quoted(dst, a + 1, kind);
     dst[b] = b'=';
@@ -134,13 +119,7 @@ fn put_item(dst: &mut [u8], at: usize, item: DomainDefined) -> usize
     requires { at + length (segment_text keys (dd_segment (dd_view item))) ≤ length dst.old }
     ensures { Wrote dst.old at (segment_text keys (dd_segment (dd_view item))) result dst.new }
 {
-    let kind = item.kind;
-    let n = kind.size();
-    let kind_bytes = kind.bytes;
-    let value = item.value;
-    let m = value.size();
-    let bytes = value.bytes;
-    put_dd(dst, at, &kind_bytes[..n], &bytes[..m])
+    put_dd(dst, at, item.kind.text(), item.value.text())
 }
 
 // Writes the DDs, in order.
@@ -148,12 +127,9 @@ fn put_dds(dst: &mut [u8], at: usize, dds: Dds) -> usize
     requires { at + length (joined keys (map dd_segment (dds_view dds))) ≤ length dst.old }
     ensures { Wrote dst.old at (joined keys (map dd_segment (dds_view dds))) result dst.new }
 {
-    let n = dds.size();
     let mut next = at;
-    let mut i = 0;
-    while i < n {
+    for i in 0..dds.size() {
         next = put_item(dst, next, dds.item(i));
-        i += 1;
     }
     next
 }
@@ -163,9 +139,7 @@ fn put_unit(dst: &mut [u8], at: usize, unit: OrgUnit) -> usize
     requires { at + length (segment_text keys (plain_segment ou_key (unit_view unit))) ≤ length dst.old }
     ensures { Wrote dst.old at (segment_text keys (plain_segment ou_key (unit_view unit))) result dst.new }
 {
-    let n = unit.size();
-    let bytes = unit.bytes;
-    put_segment(dst, at, OU_KEY, &bytes[..n])
+    put_segment(dst, at, OU_KEY, unit.text())
 }
 
 // Writes the units from number `from` on, the least significant first.
@@ -174,9 +148,7 @@ fn put_units(dst: &mut [u8], at: usize, units: Units, from: usize) -> usize
     ensures { Wrote dst.old at (joined keys (map (plain_segment ou_key) (reverse (drop from (units_view units))))) result dst.new }
 {
     let mut next = at;
-    let mut i = units.size();
-    while from < i {
-        i -= 1;
+    for i in (from..units.size()).rev() {
         next = put_unit(dst, next, units.name(i));
     }
     next
@@ -184,57 +156,29 @@ fn put_units(dst: &mut [u8], at: usize, units: Units, from: usize) -> usize
 
 // Writes an attribute that a record has once, if it is there.
 fn put_single(dst: &mut [u8], at: usize, rec: Record, k: usize) -> usize
-    requires k_lt_single_count { k < single_count }
-    requires k_in_bounds { at + length (joined keys (segments_at (view rec) k)) ≤ length dst.old }
+    requires key { k < single_count }
+    requires room { at + length (joined keys (segments_at (view rec) k)) ≤ length dst.old }
     ensures { Wrote dst.old at (joined keys (segments_at (view rec) k)) result dst.new }
 {
     let value = rec.single(k);
-    let n = value.size();
-    if n == 0 {
+    if value.size() == 0 {
         return at;
     }
-    let bytes = value.bytes;
-    put_segment(dst, at, k, &bytes[..n])
-}
-
-// How many units are among the first n levels.
-fn units_out(n: usize) -> usize
-    ensures { result ≡ n - own_levels }
-{
-    if n < OWN_LEVELS {
-        return 0;
-    }
-    n - OWN_LEVELS
-}
-
-// Whether the attribute with the number k is one of the first n levels.
-fn is_out(k: usize, n: usize) -> bool
-    ensures { result ≡ ltb k (min n own_levels) }
-{
-    if k < OWN_LEVELS {
-        return k < n;
-    }
-    false
+    put_segment(dst, at, k, value.text())
 }
 
 // Writes what the record has for one key, its first `from` levels left out.
 fn put_key(dst: &mut [u8], at: usize, rec: Record, from: usize, k: usize) -> usize
-    requires k_bound { k < pn_key }
-    requires k_in_bounds { at + length (joined keys (segments_at (remaining from (view rec)) k)) ≤ length dst.old }
+    requires key { k < pn_key }
+    requires room { at + length (joined keys (segments_at (remaining from (view rec)) k)) ≤ length dst.old }
     ensures { Wrote dst.old at (joined keys (segments_at (remaining from (view rec)) k)) result dst.new }
 {
-    if k == DD_KEY {
-        let dds = rec.dds;
-        return put_dds(dst, at, dds);
+    match k {
+        DD_KEY => put_dds(dst, at, rec.dds),
+        OU_KEY => put_units(dst, at, rec.units, from.saturating_sub(OWN_LEVELS)),
+        _ if k < from.min(OWN_LEVELS) => at,
+        _ => put_single(dst, at, rec, k),
     }
-    if k == OU_KEY {
-        let units = rec.units;
-        return put_units(dst, at, units, units_out(from));
-    }
-    if is_out(k, from) {
-        return at;
-    }
-    put_single(dst, at, rec, k)
 }
 
 // Writes what the record has for each key, in order, its first `from` levels left out.
@@ -243,10 +187,8 @@ fn put_keys(dst: &mut [u8], at: usize, rec: Record, from: usize) -> usize
     ensures { Wrote dst.old at (joined keys (segments_in (remaining from (view rec)) order)) result dst.new }
 {
     let mut next = at;
-    let mut i = 0;
-    while i < PN_KEY {
-        next = put_key(dst, next, rec, from, ORDER[i]);
-        i += 1;
+    for k in ORDER {
+        next = put_key(dst, next, rec, from, k);
     }
     next
 }
@@ -265,12 +207,10 @@ pub fn write_text(dst: &mut [u8], at: usize, rec: Record, from: usize) -> usize
 fn is_own_empty(rec: Record, from: usize) -> bool
     ensures { result ≡ all (λ s. not (non_empty s)) (take own_levels (remaining from (view rec)).single) }
 {
-    let mut k = from;
-    while k < OWN_LEVELS {
+    for k in from..OWN_LEVELS {
         if 0 < rec.single(k).size() {
             return false;
         }
-        k += 1;
     }
     true
 }
@@ -279,64 +219,29 @@ fn is_own_empty(rec: Record, from: usize) -> bool
 fn is_only_name(rec: Record, from: usize) -> bool
     ensures { result ≡ only_name (remaining from (view rec)) }
 {
-    if !is_own_empty(rec, from) {
-        return false;
-    }
-    let units = rec.units;
-    if units_out(from) < units.size() {
-        return false;
-    }
-    if 0 < rec.single(CN).size() {
-        return false;
-    }
-    let dds = rec.dds;
-    dds.size() == 0
+    is_own_empty(rec, from)
+        && rec.units.size() <= from.saturating_sub(OWN_LEVELS)
+        && rec.single(CN).size() == 0
+        && rec.dds.size() == 0
 }
 
-// Whether a name with no generation is written in the short form.
-fn is_short_name(given: Value, initials: Value, surname: Value) -> bool
-    ensures { result ≡ is_short (record { given = value_view given; initials = value_view initials; surname = value_view surname }) [] }
+// The name in a record.
+fn name_in(rec: &Record) -> Name<'_>
+    ensures { name_view result ≡ name_in (view rec.now) }
 {
-    let a = given.size();
-    let b = initials.size();
-    let c = surname.size();
-    let given_bytes = given.bytes;
-    let initials_bytes = initials.bytes;
-    let surname_bytes = surname.bytes;
-    is_short(&given_bytes[..a], &initials_bytes[..b], &surname_bytes[..c])
-}
-
-// Writes the short form of a name at the front of `dst`.
-fn put_short(dst: &mut [u8], given: Value, initials: Value, surname: Value) -> usize
-    requires { length (name_text (record { given = value_view given; initials = value_view initials; surname = value_view surname })) ≤ length dst.old }
-    ensures { Wrote dst.old 0 (name_text (record { given = value_view given; initials = value_view initials; surname = value_view surname })) result dst.new }
-{
-    let a = given.size();
-    let b = initials.size();
-    let c = surname.size();
-    let given_bytes = given.bytes;
-    let initials_bytes = initials.bytes;
-    let surname_bytes = surname.bytes;
-    put_name(
-        dst,
-        0,
-        &given_bytes[..a],
-        &initials_bytes[..b],
-        &surname_bytes[..c],
-    )
+    let values = &rec.singles.values;
+    Name {
+        given: values[G].text(),
+        initials: values[I].text(),
+        surname: values[S].text(),
+    }
 }
 
 // Whether what is left of a record is written as the short form of its name.
 fn is_written_short(rec: Record, from: usize) -> bool
     ensures { result ≡ writes_short (remaining from (view rec)) }
 {
-    if !is_only_name(rec, from) {
-        return false;
-    }
-    if 0 < rec.single(GQ).size() {
-        return false;
-    }
-    is_short_name(rec.single(G), rec.single(I), rec.single(S))
+    is_only_name(rec, from) && rec.single(GQ).size() == 0 && name_in(&rec).is_short()
 }
 
 // Writes what is left of a record for the local part, at the front of `dst`: the short form of a name, or record text.
@@ -345,7 +250,7 @@ pub fn write_local(dst: &mut [u8], rec: Record, from: usize) -> usize
     ensures { Wrote dst.old 0 (local_text keys (remaining from (view rec))) result dst.new }
 {
     if is_written_short(rec, from) {
-        return put_short(dst, rec.single(G), rec.single(I), rec.single(S));
+        return name_in(&rec).put(dst, 0);
     }
     write_text(dst, 0, rec, from)
 }

@@ -5,7 +5,7 @@ use cases::print::{Output, say_number};
 use cases::read::{LARGEST, number};
 use chars::parts::byte_at;
 use oraddr::add::{Added, Addition, Attribute};
-use oraddr::bounds::{MOST, SINGLES};
+use oraddr::bounds::MOST;
 use oraddr::record::{Dds, Record, Singles, Units};
 
 // The attribute that a command adds.
@@ -25,86 +25,51 @@ fn attribute(tag: u8) -> Attribute {
 
 // Prints the number of an addition's answer.
 fn told(to: &mut Output, a: Addition) -> Record {
-    let answer = a.answer;
-    match answer {
+    match a.answer {
         Added::Done => say_number(to, 0),
         Added::Refused => say_number(to, 4),
     }
     a.record
 }
 
-fn disturb_values(old: Singles, k: usize, n: usize) -> Singles {
-    let mut next = old;
-    if k < SINGLES {
-        let mut value = next.values[k];
+fn disturb_values(singles: &mut Singles, k: usize, n: usize) {
+    if let Some(value) = singles.values.get_mut(k) {
         value.len = n;
-        next.values[k] = value;
     }
-    next
 }
 
 // The length of unit i, or past the units their count.
-fn disturb_units(old: Units, i: usize, n: usize) -> Units {
-    let mut next = old;
-    if i < MOST {
-        let mut name = next.names[i];
+fn disturb_units(units: &mut Units, i: usize, n: usize) {
+    if let Some(name) = units.names.get_mut(i) {
         name.len = n;
-        next.names[i] = name;
-        return next;
+    } else {
+        units.count = n;
     }
-    next.count = n;
-    next
-}
-
-fn disturb_items(old: Dds, of_type: bool, i: usize, n: usize) -> Dds {
-    let mut next = old;
-    if i < MOST {
-        let mut item = next.items[i];
-        if of_type {
-            let mut kind = item.kind;
-            kind.len = n;
-            item.kind = kind;
-        } else {
-            let mut value = item.value;
-            value.len = n;
-            item.value = value;
-        }
-        next.items[i] = item;
-        return next;
-    }
-    next.count = n;
-    next
 }
 
 // The length of a DD's type, or behind the types of its value, or past both the count of DDs.
-fn disturb_dds(old: Dds, i: usize, n: usize) -> Dds {
+fn disturb_dds(dds: &mut Dds, i: usize, n: usize) {
     if i < MOST {
-        return disturb_items(old, true, i, n);
+        dds.items[i].kind.len = n;
+    } else if i < MOST + MOST {
+        dds.items[i - MOST].value.len = n;
+    } else {
+        dds.count = n;
     }
-    disturb_items(old, false, i - MOST, n)
 }
 
 // The length or the count that a number stands for.
 fn size(n: usize) -> usize {
-    if n == LARGEST {
-        0xffff_ffff_ffff_ffff
-    } else {
-        n
-    }
+    if n == LARGEST { usize::MAX } else { n }
 }
 
-fn disturb(rec: Record, tag: u8, place: usize, n: usize) -> Record {
-    let mut next = rec;
-    if tag == b'L' {
-        next.singles = disturb_values(rec.singles, place, n);
-        return next;
+fn disturb(mut rec: Record, tag: u8, place: usize, n: usize) -> Record {
+    match tag {
+        b'L' => disturb_values(&mut rec.singles, place, n),
+        b'M' => disturb_units(&mut rec.units, place, n),
+        _ => disturb_dds(&mut rec.dds, place, n),
     }
-    if tag == b'M' {
-        next.units = disturb_units(rec.units, place, n);
-        return next;
-    }
-    next.dds = disturb_dds(rec.dds, place, n);
-    next
+    rec
 }
 
 // The record after a command.
@@ -123,11 +88,12 @@ fn change(to: &mut Output, rec: Record, s: &[u8]) -> Record {
 // The record that commands make, in front of each its length in four digits.
 fn made(to: &mut Output, s: &[u8]) -> Record {
     let mut rec = Record::empty();
-    let mut at = 0;
-    while at < s.len() {
-        let n = number(rest(s, at));
-        rec = change(to, rec, front(rest(s, at + 4), n));
-        at += 4 + n;
+    let mut left = s;
+    // while: a command is as long as its four digits say
+    while !left.is_empty() {
+        let n = number(left);
+        rec = change(to, rec, front(rest(left, 4), n));
+        left = rest(left, 4 + n);
     }
     rec
 }

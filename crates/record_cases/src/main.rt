@@ -19,16 +19,14 @@ mod commands;
 mod print;
 mod rules;
 
-use cases::files::read_full;
-use cases::lines::{line, next_line};
-use cases::parts::rest;
+use cases::lines::lines_of;
+use cases::parts::front;
 use cases::print::Output;
 use cases::read::unhex;
+use cases::run::read_and_run;
 use commands::run_record;
-use oraddr::value::held;
 use rules::{print_byte, print_text};
 use std::io;
-use std::io::{Stdin, Stdout};
 
 // Standard input, at most.
 const ROOM: usize = 524288;
@@ -45,32 +43,21 @@ fn run_case(to: &mut Output, tag: u8, text: &[u8]) {
 }
 
 fn run_line(to: &mut Output, line: &[u8]) {
-    if line.len() == 0 {
+    let [tag, digits @ ..] = line else {
         return;
-    }
+    };
     let mut space = [0u8; TEXT];
-    let n = unhex(&mut space, rest(line, 1));
-    run_case(to, line[0], held(&space, n));
+    let n = unhex(&mut space, digits);
+    run_case(to, *tag, front(&space, n));
 }
 
 fn run(to: &mut Output, s: &[u8]) {
-    let mut from = 0;
-    while from < s.len() {
-        run_line(to, line(s, from));
-        from = next_line(s, from);
+    for line in lines_of(s) {
+        run_line(to, line);
     }
-}
-
-// Reads standard input, and runs it.
-fn read_and_run(from: Stdin, to: Stdout, space: &mut [u8]) -> io::Result<()> {
-    let mut from = from;
-    let n = read_full(&mut from, space)?;
-    let mut to = Output::new(to);
-    run(&mut to, &space[..n]);
-    to.written()
 }
 
 fn main(rt: HostRuntime) -> io::Result<()> {
     let mut space = [0u8; ROOM];
-    read_and_run(rt.stdin(), rt.stdout(), &mut space)
+    read_and_run(rt.stdin(), rt.stdout(), &mut space, run)
 }

@@ -4,3 +4,4 @@ pub mod Code
 pub mod Convert
 pub mod Examples
 pub mod Parse
+pub mod Plain

@@ -1,41 +1,24 @@
 // A text coded: how a character is, what the whole takes, and the writing of it.
-ghost use Rattle.std.specs.Prelude.{◌≡◌, [], ◌∷◌, ◌+◌, ◌≤◌, length, drop};
+// What is written goes to a place of a lent buffer, and where the next goes is told: `dst, at`, as in `put` of chars/src/write.rt.
+ghost use Rattle.std.specs.Prelude.{◌≡◌, ◌+◌, ◌≤◌, length};
 ghost use Rattle.chars.specs.Class.{is_char};
 ghost use Rattle.chars.specs.Lists.{all};
 ghost use Rattle.chars.specs.Write.{Wrote};
 ghost use Rattle.restricted.specs.Answers.{coded_answer, short_answer, spelled};
 ghost use Rattle.restricted.specs.Code.{code_char, coded, is_plain, numbered};
 
-use crate::convert::RestrictedAnswer;
-use chars::class::HIGHEST_CODE;
+use crate::convert::RestrictedFault;
 use chars::write::put;
 
 // Whether a character stands for itself. Letters, which most texts are made of, come first.
+#[tactic(auto, using(std::proofs::lemmas::Bool::Decides::nat_tests, crate::proofs::Laws::Plain::plain_ranges))]
 pub(crate) fn is_plain(b: u8) -> bool
     ensures { result ≡ is_plain b }
 {
-    if b'`' <= b {
-        return b <= b'~';
-    }
-    if b'^' <= b {
-        return b == b'^';
-    }
-    if b'?' <= b {
-        return b <= b'Z';
-    }
-    if b':' <= b {
-        return b == b'=';
-    }
-    if b'-' <= b {
-        return true;
-    }
-    if b'*' <= b {
-        return b <= b'+';
-    }
-    if b'$' <= b {
-        return b <= b'\'';
-    }
-    b == b'!'
+    matches!(
+        b,
+        b'`'..=b'~' | b'^' | b'?'..=b'Z' | b'=' | b'-'..=b'9' | b'*'..=b'+' | b'$'..=b'\'' | b'!'
+    )
 }
 
 // How a character is coded: by a single byte, itself or the `_` of a space; by a letter between two `#`; or by its number.
@@ -77,62 +60,46 @@ fn coded_size(b: u8) -> usize
     }
 }
 
-// Whether no byte from a place on is over 127.
-pub(crate) fn all_chars(s: &[u8], from: usize) -> bool
-    ensures { result ≡ all is_char (drop from s.now) }
+// Whether no byte is over 127.
+pub(crate) fn all_chars(s: &[u8]) -> bool
+    ensures { result ≡ all is_char s.now }
 {
-    let mut i = from;
-    while i < s.len() {
-        if HIGHEST_CODE < s[i] {
-            return false;
-        }
-        i += 1;
-    }
-    true
+    s.is_ascii()
 }
 
-// The answer for a text that does not fit, once what stands before a place is known to have no byte over 127.
-fn short_answer(s: &[u8], from: usize) -> RestrictedAnswer
-    ensures { result ≡ short_answer (drop from s.now) }
+// Why a text that does not fit is refused, once what stands before the rest of it is known to have no byte over 127.
+#[tactic(auto, unfolding(crate::specs::Answers::short_answer))]
+fn short_answer(rest: &[u8]) -> RestrictedFault
+    ensures { result ≡ short_answer rest.now }
 {
-    if all_chars(s, from) {
-        return RestrictedAnswer::ShortBuffer;
+    if all_chars(rest) {
+        RestrictedFault::ShortBuffer
+    } else {
+        RestrictedFault::ByteOver127
     }
-    RestrictedAnswer::ByteOver127
 }
 
 // Whether a text can be coded and then fits. Its coded form, up to five times as long, is measured against the room that is left, so
 // that no length of a text is too great.
-pub(crate) fn judge_coded(s: &[u8], room: usize) -> RestrictedAnswer
+pub(crate) fn judge_coded(s: &[u8], room: usize) -> Result<(), RestrictedFault>
     ensures { result ≡ coded_answer s.now room }
 {
     let mut left = room;
-    let mut i = 0;
-    while i < s.len() {
-        let b = s[i];
-        if HIGHEST_CODE < b {
-            return RestrictedAnswer::ByteOver127;
+    for (i, &b) in s.iter().enumerate() {
+        if !b.is_ascii() {
+            return Err(RestrictedFault::ByteOver127);
         }
         let n = coded_size(b);
         if left < n {
-            return short_answer(s, i);
+            return Err(short_answer(&s[i..]));
         }
         left -= n;
-        i += 1;
     }
-    RestrictedAnswer::Done
-}
-
-// Writes a letter between two `#` at `at`, and returns where the next text goes.
-fn put_short(dst: &mut [u8], at: usize, letter: u8) -> usize
-    requires { at + 3 ≤ length dst.old }
-    ensures { Wrote dst.old at (35 ∷ letter ∷ 35 ∷ []) result dst.new }
-{
-    let text = [b'#', letter, b'#'];
-    put(dst, at, &text)
+    Ok(())
 }
 
 // Writes a character's number, three digits between two `#`.
+#[tactic(auto, unfolding(crate::specs::Code::numbered))]
 fn put_number(dst: &mut [u8], at: usize, b: u8) -> usize
     requires { at + 5 ≤ length dst.old }
     ensures { Wrote dst.old at (numbered b) result dst.new }
@@ -147,23 +114,14 @@ fn put_number(dst: &mut [u8], at: usize, b: u8) -> usize
     put(dst, at, &text)
 }
 
-// Writes one byte.
-fn put_byte(dst: &mut [u8], at: usize, b: u8) -> usize
-    requires { at + 1 ≤ length dst.old }
-    ensures { Wrote dst.old at (b ∷ []) result dst.new }
-{
-    dst[at] = b;
-    at + 1
-}
-
 // Writes a character as it is coded.
 fn put_char(dst: &mut [u8], at: usize, b: u8) -> usize
     requires { at + length (code_char b) ≤ length dst.old }
     ensures { Wrote dst.old at (code_char b) result dst.new }
 {
     match coding_of(b) {
-        Coding::Single(c) => put_byte(dst, at, c),
-        Coding::Short(letter) => put_short(dst, at, letter),
+        Coding::Single(c) => put(dst, at, &[c]),
+        Coding::Short(letter) => put(dst, at, &[b'#', letter, b'#']),
         Coding::Number => put_number(dst, at, b),
     }
 }
@@ -174,10 +132,8 @@ pub(crate) fn put_coded(dst: &mut [u8], s: &[u8]) -> usize
     ensures { Wrote dst.old 0 (coded s.now) result dst.new }
 {
     let mut at = 0;
-    let mut i = 0;
-    while i < s.len() {
-        at = put_char(dst, at, s[i]);
-        i += 1;
+    for &b in s {
+        at = put_char(dst, at, b);
     }
     at
 }

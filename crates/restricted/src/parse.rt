@@ -1,46 +1,49 @@
 // Coded text parsed: what stands at a place, how many characters the whole stands for, and the writing of these.
-ghost use Rattle.std.specs.Prelude.{◌≡◌, ◌∷◌, ◌≤◌, ◌<◌, length, drop};
+// A bound on a place is asked where it is used: it ties two parameters of one call, and a struct of the two would be made for each.
+ghost use Rattle.std.specs.Prelude.{◌≡◌, ◌∷◌, ◌≤◌, ◌<◌, IfSome, length, drop, unwrap_or};
 ghost use Rattle.std.proofs.Math.Option.{some};
 ghost use Rattle.chars.specs.Write.{Wrote};
 ghost use Rattle.restricted.specs.Answers.{Grouped, Measured, short_group, unparsed_answer};
 ghost use Rattle.restricted.specs.Code.{char_of, decoded, parse};
 
 use crate::code::{all_chars, is_plain};
+use crate::convert::RestrictedFault;
 use chars::case::fold_case;
-use chars::digits::{HIGHEST_NUMBER, number_at};
+use chars::digits::character_at;
 use chars::parts::byte_at;
 
-// The character that a letter stands for between two `#`, 0 for any other.
-fn char_of(letter: u8) -> u8
-    ensures { result ≡ char_of letter }
+// The character that a letter stands for between two `#`.
+fn char_of(letter: u8) -> Option<u8>
+    ensures value { unwrap_or result 0 ≡ char_of letter }
+    ensures there { IfSome result (λ char. 1 ≤ char) }
 {
-    let l = fold_case(letter);
-    match l {
-        b'u' => b'_',
-        b'l' => b'(',
-        b'r' => b')',
-        b'm' => b',',
-        b'c' => b':',
-        b'b' => b'\\',
-        b'h' => b'#',
-        b'e' => b'=',
-        b's' => b'/',
-        _ => 0,
+    match fold_case(letter) {
+        b'u' => Some(b'_'),
+        b'l' => Some(b'('),
+        b'r' => Some(b')'),
+        b'm' => Some(b','),
+        b'c' => Some(b':'),
+        b'b' => Some(b'\\'),
+        b'h' => Some(b'#'),
+        b'e' => Some(b'='),
+        b's' => Some(b'/'),
+        _ => None,
     }
 }
 
-// The character of a letter and a `#` at a place, 0 where these do not stand there.
-fn short_at(s: &[u8], at: usize) -> u8
+// The character of a letter and a `#` at a place.
+fn short_at(s: &[u8], at: usize) -> Option<u8>
     requires { at ≤ length s.now }
-    ensures { result ≡ short_group (drop at s.now) }
+    ensures value { unwrap_or result 0 ≡ short_group (drop at s.now) }
+    ensures there { IfSome result (λ char. 1 ≤ char) }
 {
     if byte_at(s, at + 1) != b'#' {
-        return 0;
+        return None;
     }
     char_of(byte_at(s, at))
 }
 
-// A character, and how many bytes it is coded by; 0 of them where what stands there does not parse.
+// A character, and how many bytes it is coded by.
 #[derive(Clone, Copy)]
 struct Group {
     char: u8,
@@ -48,80 +51,63 @@ struct Group {
 }
 
 // What stands at a place behind a `#`.
-fn behind_hash(s: &[u8], at: usize) -> Group
+fn behind_hash(s: &[u8], at: usize) -> Option<Group>
     requires { at ≤ length s.now }
     ensures { Grouped (35 ∷ drop at s.now) result }
 {
-    let c = short_at(s, at);
-    if c != 0 {
-        return Group { char: c, len: 3 };
+    if let Some(char) = short_at(s, at) {
+        return Some(Group { char, len: 3 });
     }
     if byte_at(s, at + 3) != b'#' {
-        return Group { char: 0, len: 0 };
+        return None;
     }
-    let n = number_at(s, at);
-    if HIGHEST_NUMBER < n {
-        return Group { char: 0, len: 0 };
-    }
-    Group {
-        char: n as u8,
-        len: 5,
-    }
+    let char = character_at(s, at)?;
+    Some(Group { char, len: 5 })
 }
 
-// What stands at a place.
-fn group_at(s: &[u8], at: usize) -> Group
+// What stands at a place; none where that does not parse.
+fn group_at(s: &[u8], at: usize) -> Option<Group>
     requires { at < length s.now }
     ensures { Grouped (drop at s.now) result }
 {
     let b = s[at];
     if is_plain(b) {
-        return Group { char: b, len: 1 };
+        return Some(Group { char: b, len: 1 });
     }
-    if b == b'_' {
-        return Group { char: b' ', len: 1 };
+    match b {
+        b'_' => Some(Group { char: b' ', len: 1 }),
+        b'#' => behind_hash(s, at + 1),
+        _ => None,
     }
-    if b == b'#' {
-        return behind_hash(s, at + 1);
-    }
-    Group { char: 0, len: 0 }
 }
 
-// What a text comes to: how many characters it stands for; that it does not parse, and is taken as it stands; or that it has a byte over
-// 127.
-#[derive(Clone, Copy)]
-pub(crate) enum Parsed {
-    Length(usize),
-    AsItStands,
-    ByteOver127,
-}
-
-// The answer for a text that does not parse, once what stands before a place is known to have no byte over 127.
-fn unparsed_answer(s: &[u8], from: usize) -> Parsed
-    ensures { result ≡ unparsed_answer (drop from s.now) }
+// The answer for a text that does not parse, once what stands before the rest of it is known to have no byte over 127.
+#[tactic(auto, unfolding(crate::specs::Answers::unparsed_answer))]
+fn unparsed_answer(rest: &[u8]) -> Result<Option<usize>, RestrictedFault>
+    ensures { result ≡ unparsed_answer rest.now }
 {
-    if all_chars(s, from) {
-        return Parsed::AsItStands;
+    if all_chars(rest) {
+        Ok(None)
+    } else {
+        Err(RestrictedFault::ByteOver127)
     }
-    Parsed::ByteOver127
 }
 
-// Parses a text.
-pub(crate) fn measure_parsed(s: &[u8]) -> Parsed
+// How many characters a text stands for; none where it does not parse, and is taken as it stands.
+pub(crate) fn measure_parsed(s: &[u8]) -> Result<Option<usize>, RestrictedFault>
     ensures { Measured s.now result }
 {
     let mut n = 0;
     let mut i = 0;
+    // while: a group has 1, 3 or 5 bytes
     while i < s.len() {
-        let g = group_at(s, i);
-        let len = g.len;
-        if len == 0 {
-            return unparsed_answer(s, i);
-        }
+        let Some(g) = group_at(s, i) else {
+            return unparsed_answer(&s[i..]);
+        };
         n += 1;
-        i += len;
+        i += g.len;
     }
-    Parsed::Length(n)
+    Ok(Some(n))
 }
 
 // Writes what a text that parses stands for to the front of `dst`, and returns its length.
@@ -132,12 +118,12 @@ pub(crate) fn put_parsed(dst: &mut [u8], s: &[u8]) -> usize
 {
     let mut n = 0;
     let mut i = 0;
+    // while: a group has 1, 3 or 5 bytes
     while i < s.len() {
-        let g = group_at(s, i);
-        let len = g.len;
+        let g = group_at(s, i).unwrap();
         dst[n] = g.char;
         n += 1;
-        i += len;
+        i += g.len;
     }
     n
 }

@@ -3,39 +3,41 @@ ghost use Rattle.std.specs.Prelude.{◌≤◌};
 
 use cases::print::{FILLED, Output, say, say_written};
 use cases::read::{LARGEST, number, unhex};
-use restricted::convert::{RestrictedWritten, restrict, restricted_number, unrestrict};
+use restricted::convert::{RestrictedFault, restrict, unrestrict};
 
 // Room for the longest text.
 const TEXT: usize = 2048;
 
-// The letter E codes the text, and D reads it back.
-fn convert(tag: u8, text: &[u8], out: &mut [u8]) -> RestrictedWritten {
-    if tag == b'E' {
-        return restrict(text, out);
+// A case in a buffer of n bytes: the text converted, and what came of it printed.
+fn run_case<F: FnOnce(&[u8], &mut [u8]) -> Result<usize, RestrictedFault>>(
+    to: &mut Output,
+    convert: F,
+    text: &[u8],
+    n: usize,
+)
+    requires callable { F.IsAlwaysCallable convert }
+    requires room { n ≤ 9999 }
+{
+    let mut space = [FILLED; LARGEST];
+    let out = &mut space[..n];
+    match convert(text, out) {
+        Ok(size) => say_written(to, 0, size, out),
+        Err(fault) => say_written(to, fault.into(), 0, out),
     }
-    unrestrict(text, out)
-}
-
-fn run_into(to: &mut Output, tag: u8, text: &[u8], out: &mut [u8]) {
-    let done = convert(tag, text, out);
-    let answer = done.answer;
-    say_written(to, restricted_number(answer), done.size, out);
     say(to, b"\n");
 }
 
-// A case in a buffer of n bytes.
-fn run_case(to: &mut Output, tag: u8, text: &[u8], n: usize)
-    requires { n ≤ 9999 }
-{
-    let mut out = [FILLED; LARGEST];
-    run_into(to, tag, text, &mut out[..n]);
-}
-
-// A line's letter, the digits behind it, and the text in hexadecimal.
+// A line's letter, the digits behind it, and the text in hexadecimal. The letter E codes the text, and D reads it back.
 fn run_spelt(to: &mut Output, tag: u8, digits: &[u8], spelt: &[u8]) {
     let mut text = [0u8; TEXT];
     let n = unhex(&mut text, spelt);
-    run_case(to, tag, &text[..n], number(digits));
+    let text = &text[..n];
+    let room = number(digits);
+    if tag == b'E' {
+        run_case(to, restrict, text, room);
+    } else {
+        run_case(to, unrestrict, text, room);
+    }
 }
 
 pub(crate) fn run_line(to: &mut Output, line: &[u8]) {

@@ -12,33 +12,21 @@
 mod case;
 
 use case::run_line;
-use cases::files::read_full;
-use cases::lines::{line, next_line};
+use cases::lines::lines_of;
 use cases::print::Output;
+use cases::run::read_and_run;
 use std::io;
-use std::io::{Stdin, Stdout};
 
 // Standard input, at most.
 const ROOM: usize = 262144;
 
 fn run(to: &mut Output, s: &[u8]) {
-    let mut from = 0;
-    while from < s.len() {
-        run_line(to, line(s, from));
-        from = next_line(s, from);
+    for line in lines_of(s) {
+        run_line(to, line);
     }
-}
-
-// Reads standard input, and runs it.
-fn read_and_run(from: Stdin, to: Stdout, space: &mut [u8]) -> io::Result<()> {
-    let mut from = from;
-    let n = read_full(&mut from, space)?;
-    let mut to = Output::new(to);
-    run(&mut to, &space[..n]);
-    to.written()
 }
 
 fn main(rt: HostRuntime) -> io::Result<()> {
     let mut space = [0u8; ROOM];
-    read_and_run(rt.stdin(), rt.stdout(), &mut space)
+    read_and_run(rt.stdin(), rt.stdout(), &mut space, run)
 }

@@ -1,5 +1,6 @@
 // One run: an input that arrives in pieces of odd sizes, so that they end anywhere within a line or behind it, and a buffer with room for
 // one answer of the greatest length and no more, so that a call may have to stop before all lines that have arrived are answered.
+// The output's room is asked where it is used: it is a lent slice.
 ghost use Rattle.std.specs.Prelude.{◌<◌, ◌≤◌, length};
 ghost use Rattle.router_line.specs.Line.{answer_room};
 ghost use Rattle.route_cases.specs.Feed.{Came};
@@ -57,16 +58,16 @@ fn answer(
     let last = end == input.len();
     let mut over = over;
     let mut at = at;
+
+    // while: a turn goes on where the call before it stopped.
     while at < end {
         let done = route(table, over, &input[at..end], last, out);
         over = done.over;
-        let n = done.written;
-        say(to, &out[..n]);
-        let taken = done.taken;
-        if taken == 0 {
+        say(to, &out[..done.written]);
+        if done.taken == 0 {
             return Place { over, at };
         }
-        at += taken;
+        at += done.taken;
     }
     Place { over, at }
 }
@@ -78,6 +79,8 @@ pub(crate) fn feed(to: &mut Output, table: &[u8], input: &[u8]) {
     let mut at = 0;
     let mut end = 0;
     let mut turn = 0;
+
+    // while: as many turns as it takes until all has arrived.
     while end < input.len() {
         end = arrived(input, end, turn);
         let place = answer(to, table, input, over, at, end, &mut out);

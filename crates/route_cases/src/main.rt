@@ -7,12 +7,12 @@
 
 mod feed;
 
-use cases::files::{read_file, read_full};
-use cases::lines::{line, next_line};
+use cases::files::read_file;
+use cases::lines::lines_of;
 use cases::print::Output;
+use cases::run::read_and_run;
 use feed::feed;
 use std::io;
-use std::io::{Stdin, Stdout};
 use std::rt::Files;
 
 // Standard input, at most; an input, at most; a table with one byte too many.
@@ -31,29 +31,21 @@ fn run_files(rt: &impl Files, to: &mut Output, table: &[u8], input: &[u8]) {
     feed(to, &table_space[..t], &input_space[..n]);
 }
 
-// Runs each pair of names. A table's name that ends the text has no input.
+// Runs each pair of names. A table's name with none behind it has no input.
 fn run(rt: &impl Files, to: &mut Output, s: &[u8]) {
-    let mut from = 0;
-    while from < s.len() {
-        let middle = next_line(s, from);
-        if s.len() < middle {
-            return;
+    let mut table = None;
+    for name in lines_of(s) {
+        match table {
+            Some(of) => {
+                run_files(rt, to, of, name);
+                table = None;
+            }
+            None => table = Some(name),
         }
-        run_files(rt, to, line(s, from), line(s, middle));
-        from = next_line(s, middle);
     }
-}
-
-// Reads standard input, and runs it.
-fn read_and_run(rt: &impl Files, from: Stdin, to: Stdout, space: &mut [u8]) -> io::Result<()> {
-    let mut from = from;
-    let n = read_full(&mut from, space)?;
-    let mut to = Output::new(to);
-    run(rt, &mut to, &space[..n]);
-    to.written()
 }
 
 fn main(rt: HostRuntime) -> io::Result<()> {
     let mut space = [0u8; ROOM];
-    read_and_run(&rt, rt.stdin(), rt.stdout(), &mut space)
+    read_and_run(rt.stdin(), rt.stdout(), &mut space, |to, s| run(&rt, to, s))
 }

@@ -1,12 +1,14 @@
 -- Document 01, "The program `orroute`": what a run of lines is answered with, and what a call that gets a part of it owes.
 -- Assumes nothing.
-use Rattle.std.specs.Prelude.{◌≡◌, ◌⊎◌, Bool, true, false, cond, List, [], ◌∷◌, ◌++◌, ℕ, ◌+◌, ◌≤◌, ◌<◌, length, take, drop}
+use Rattle.std.specs.Prelude.{◌≡◌, ◌⊎◌, Bool, true, false, cond, List, [], ◌∷◌, ◌++◌, ℕ, ◌+◌, ◌≤◌, ◌<◌, length, take, drop, Result}
 use Rattle.chars.specs.Lists.{non_empty}
 use Rattle.chars.specs.Parts.{run, split}
 use Rattle.chars.specs.Write.{Wrote}
 use Rattle.table.specs.Lines.{TableOutcome, loaded_from}
-use Rattle.table_load.specs.Load.{Ready, load_answer}
-use Rattle.table.specs.declared.load.TableRead.{TableRead}
+use Rattle.table.specs.declared.load.Malformed.{Malformed}
+use Rattle.table_load.specs.Load.{FormedBy}
+use Rattle.table_load.specs.Tables.{table_answer}
+use Rattle.table_load.specs.declared.tables as tables
 use Rattle.router_line.specs.Line.{line_answer, longest_line}
 use Rattle.router.specs.declared.run.Routed.{Routed}
 
@@ -91,7 +93,7 @@ pub data Calls (l : TableOutcome) : Bool → List ℕ → List ℕ → List ℕ 
 
 -- ---- on the way
 
--- A table text that was loaded for a run: what it comes to, and that it is in order.
-pub record Opened (s : List ℕ) (r : TableRead) (ds rs : List ℕ) : Type 0 where
-  pub answers : load_answer s ds rs r ≡ loaded_from s
-  pub ready : Ready s ds rs r
+-- A table text that was read for a run: what it comes to, and that it is in order.
+pub record Opened (s : List ℕ) (r : Result tables.Table.Table Malformed) : Type 0 where
+  pub answers : table_answer r ≡ loaded_from s
+  pub formed : FormedBy (table_answer r)

@@ -4,8 +4,9 @@ use mathlib.Core.Path.{◌≡◌, refl, sym, ap, ◌∙◌}
 use Prim.Native.Nat.{ℕ, zero, suc, ◌<◌, ◌≤◌, ◌+◌, ◌*◌}
 use native.Mathlib.Omega.{arith}
 use mathlib.Core.List.{List, [], ◌∷◌, ◌++◌}
-use lib.ListN.{length, get_or, set, take, length-set}
-use lib.Seq.{lt-length-set, get_or-set_same, get_or-set_other, take-suc}
+use lib.ListN.{length, get_or, take, length-set}
+use lib.Seq.{take-suc}
+use Rattle.std.proofs.lemmas.Grind.{elements}
 use Rattle.rowlist.specs.declared.RowEntry.{RowEntry}
 use Rattle.rowlist.specs.Entries.{no_entry, entry_at, entries_from, entries_of, laid}
 
@@ -15,64 +16,31 @@ laid_out rows ns zero = ns
 laid_out rows ns (suc i) = laid (laid_out rows ns i) (i * 5) (get_or rows i no_entry)
 
 module _ (ns : List ℕ) (k : ℕ) (e : RowEntry) where
-  abbrev s₁ : List ℕ
-  s₁ = set ns k e.kind
-
-  abbrev s₂ : List ℕ
-  s₂ = set s₁ (k + 1) e.domain
-
-  abbrev s₃ : List ℕ
-  s₃ = set s₂ (k + 2) e.domain_len
-
-  abbrev s₄ : List ℕ
-  s₄ = set s₃ (k + 3) e.path
-
   length-laid : length (laid ns k e) ≡ length ns
-  length-laid =
-      length-set s₄ (k + 4) e.path_len ∙ length-set s₃ (k + 3) e.path ∙ length-set s₂ (k + 2) e.domain_len ∙ length-set s₁ (k + 1) e.domain
-      ∙ length-set ns k e.kind
+  length-laid = simp length-set
 
   -- a number before the place is as it was
   before : (j : ℕ) → j < k → get_or (laid ns k e) j 0 ≡ get_or ns j 0
-  before j l =
-      get_or-set_other s₄ (k + 4) j e.path_len 0 (λ q. omega (arith, q, l))
-      ∙ get_or-set_other s₃ (k + 3) j e.path 0 (λ q. omega (arith, q, l))
-      ∙ get_or-set_other s₂ (k + 2) j e.domain_len 0 (λ q. omega (arith, q, l))
-      ∙ get_or-set_other s₁ (k + 1) j e.domain 0 (λ q. omega (arith, q, l))
-      ∙ get_or-set_other ns k j e.kind 0 (λ q. omega (arith, q, l))
+  before j l = grind (arith, elements)
 
   -- the entry is read back at its place
   there : k + 4 < length ns → entry_at (laid ns k e) k ≡ e
   there l = λ i. record { kind = r₀ i; domain = r₁ i; domain_len = r₂ i; path = r₃ i; path_len = r₄ i }
     where
-      r₄ : get_or (laid ns k e) (k + 4) 0 ≡ e.path_len
-      r₄ =
-          get_or-set_same s₄ (k + 4) e.path_len 0
-          (lt-length-set s₃ (k + 3) e.path (lt-length-set s₂ (k + 2) e.domain_len
-          (lt-length-set s₁ (k + 1) e.domain (lt-length-set ns k e.kind (omega (arith, l))))))
-
-      r₃ : get_or (laid ns k e) (k + 3) 0 ≡ e.path
-      r₃ = get_or-set_other s₄ (k + 4) (k + 3) e.path_len 0 (λ q. omega (arith, q, l))
-          ∙ get_or-set_same s₃ (k + 3) e.path 0
-          (lt-length-set s₂ (k + 2) e.domain_len (lt-length-set s₁ (k + 1) e.domain (lt-length-set ns k e.kind (omega (arith, l)))))
-
-      r₂ : get_or (laid ns k e) (k + 2) 0 ≡ e.domain_len
-      r₂ = get_or-set_other s₄ (k + 4) (k + 2) e.path_len 0 (λ q. omega (arith, q, l))
-          ∙ get_or-set_other s₃ (k + 3) (k + 2) e.path 0 (λ q. omega (arith, q, l))
-          ∙ get_or-set_same s₂ (k + 2) e.domain_len 0 (lt-length-set s₁ (k + 1) e.domain (lt-length-set ns k e.kind (omega (arith, l))))
+      r₀ : get_or (laid ns k e) k 0 ≡ e.kind
+      r₀ = grind (arith, elements)
 
       r₁ : get_or (laid ns k e) (k + 1) 0 ≡ e.domain
-      r₁ = get_or-set_other s₄ (k + 4) (k + 1) e.path_len 0 (λ q. omega (arith, q, l))
-          ∙ get_or-set_other s₃ (k + 3) (k + 1) e.path 0 (λ q. omega (arith, q, l))
-          ∙ get_or-set_other s₂ (k + 2) (k + 1) e.domain_len 0 (λ q. omega (arith, q, l))
-          ∙ get_or-set_same s₁ (k + 1) e.domain 0 (lt-length-set ns k e.kind (omega (arith, l)))
+      r₁ = grind (arith, elements)
 
-      r₀ : get_or (laid ns k e) k 0 ≡ e.kind
-      r₀ = get_or-set_other s₄ (k + 4) k e.path_len 0 (λ q. omega (arith, q, l))
-          ∙ get_or-set_other s₃ (k + 3) k e.path 0 (λ q. omega (arith, q, l))
-          ∙ get_or-set_other s₂ (k + 2) k e.domain_len 0 (λ q. omega (arith, q, l))
-          ∙ get_or-set_other s₁ (k + 1) k e.domain 0 (λ q. omega (arith, q, l))
-          ∙ get_or-set_same ns k e.kind 0 (omega (arith, l))
+      r₂ : get_or (laid ns k e) (k + 2) 0 ≡ e.domain_len
+      r₂ = grind (arith, elements)
+
+      r₃ : get_or (laid ns k e) (k + 3) 0 ≡ e.path
+      r₃ = grind (arith, elements)
+
+      r₄ : get_or (laid ns k e) (k + 4) 0 ≡ e.path_len
+      r₄ = grind (arith, elements)
 
   entry_before : (j : ℕ) → j + 5 ≤ k → entry_at (laid ns k e) j ≡ entry_at ns j
   entry_before j l = λ i. record {

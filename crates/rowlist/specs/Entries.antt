@@ -1,6 +1,6 @@
 -- A list of row entries laid out as numbers, five an entry.
 -- Assumes nothing.
-use Rattle.std.specs.Prelude.{ℕ, zero, suc, ◌+◌, List, [], ◌∷◌, get_or, set, cond, ltb}
+use Rattle.std.specs.Prelude.{ℕ, zero, suc, ◌+◌, List, [], ◌∷◌, get_or, set, min}
 use Rattle.rowlist.specs.declared.RowEntry.{RowEntry}
 
 -- how many numbers an entry is, and how many entries are laid out: the gateway's, 512 rows, and one that is bad whatever it holds
@@ -31,4 +31,4 @@ abbrev pub laid : List ℕ → ℕ → RowEntry → List ℕ
 laid ns k e = set (set (set (set (set ns k e.kind) (k + 1) e.domain) (k + 2) e.domain_len) (k + 3) e.path) (k + 4) e.path_len
 
 abbrev pub lesser : ℕ → ℕ → ℕ
-lesser a b = cond (ltb b a) b a
+lesser a b = min a b

@@ -1,10 +1,10 @@
 // A lent list of row records, and its entries laid out as numbers, which the functions above read.
 #![tactic(auto)]
 
-ghost use Rattle.std.specs.Prelude.{◌≡◌, List, ◌<◌, ◌≤◌, ◌/◌, ◌*◌, ◌+◌, length, get_or, take};
+ghost use Rattle.std.specs.Prelude.{◌≡◌, ◌<◌, ◌/◌, ◌*◌, ◌+◌, length, get_or, take};
 ghost use Rattle.rowlist.specs.Entries.{entries_of, entry_size, laid, lesser, no_entry};
 
-// An entry of a list of rows.
+// An entry of a list of rows, as the C interface lends it.
 #[repr(C)]
 #[derive(Clone, Copy)]
 pub struct RowEntry {
@@ -21,7 +21,7 @@ pub const ENTRY_SIZE: usize = 5;
 // Room for the numbers of the gateway's entry, 512 rows, and one more, which is bad whatever it holds.
 pub const LIST_ROOM: usize = 2570;
 
-// Entry i, taken out of a lent list.
+// Entry i, taken out of a lent list: a thin function of its own, over which the rest is plain code.
 pub fn entry_at(rows: &[RowEntry], i: usize) -> RowEntry
     requires { i < length rows.now }
     ensures { result ≡ get_or rows.now i no_entry }
@@ -33,11 +33,7 @@ pub fn entry_at(rows: &[RowEntry], i: usize) -> RowEntry
 pub fn how_many(entries: usize, room: usize) -> usize
     ensures { result ≡ lesser entries (room / entry_size) }
 {
-    let most = room / ENTRY_SIZE;
-    if most < entries {
-        return most;
-    }
-    entries
+    entries.min(room / ENTRY_SIZE)
 }
 
 // Entry i is laid out: its five numbers are stored.
@@ -60,10 +56,8 @@ pub fn spread(rows: &[RowEntry], numbers: &mut [usize]) -> usize
         × (length numbers.new ≡ length numbers.old)) }
 {
     let n = how_many(rows.len(), numbers.len());
-    let mut i = 0;
-    while i < n {
+    for i in 0..n {
         put_entry(numbers, i, entry_at(rows, i));
-        i += 1;
     }
     n
 }

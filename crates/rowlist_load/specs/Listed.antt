@@ -1,7 +1,7 @@
 -- A lent list of row records spells a table, as a table text does: each entry stands for a line, and the lines are read by the rules of
 -- "The table text".
 -- Assumes nothing.
-use Rattle.std.specs.Prelude.{◌≡◌, Bool, true, false, ◌&&◌, not, List, [], ◌∷◌, ◌++◌, map, ℕ, ◌+◌, leb, eqb, length}
+use Rattle.std.specs.Prelude.{◌≡◌, Bool, true, false, ◌&&◌, not, List, [], ◌∷◌, ◌++◌, map, ℕ, ◌+◌, leb, eqb, length, Option, Some, None}
 use Rattle.chars.specs.Lists.{all}
 use Rattle.chars.specs.Parts.{split}
 use Rattle.rowlist.specs.declared.RowEntry.{RowEntry}
@@ -65,6 +65,6 @@ pub record EntryFound (s : List ℕ) (e : RowEntry) (kind most : ℕ) (p : line.
   pub row : row_at s p ≡ row_of (split 9 (entry_line s e).text)
   pub inside : RowInside s p
 
-abbrev pub EntryReading : List ℕ → RowEntry → ℕ → ℕ → line.RowRead.RowRead → Type 0
-EntryReading s e kind most (line.RowRead.TheVariants.Row p) = EntryFound s e kind most p
-EntryReading s e kind most line.RowRead.TheVariants.Bad = is_entry s e kind most ≡ false
+abbrev pub EntryReading : List ℕ → RowEntry → ℕ → ℕ → Option line.Row.Row → Type 0
+EntryReading s e kind most (Some p) = EntryFound s e kind most p
+EntryReading s e kind most None = is_entry s e kind most ≡ false

@@ -2,3 +2,4 @@
 #![tactic(auto)]
 
 pub mod load;
+pub mod read;

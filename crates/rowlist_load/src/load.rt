@@ -1,5 +1,7 @@
 // A list of rows read: its rows, in order, or the number of its first bad entry.
-ghost use Rattle.std.specs.Prelude.{◌≡◌, ◌*◌, ◌+◌, ◌-◌, ◌<◌, ◌≤◌, leb, length, map};
+// The two lists are lent, ROWS_SIZE long, which is asked: an array in the type would ask more of a caller that has slices.
+// While rows are added the lists are lent for writing, so that no `Table` can hold them yet: the four travel beside one another, and `Kept` is asked.
+ghost use Rattle.std.specs.Prelude.{◌≡◌, ◌*◌, ◌+◌, ◌-◌, ◌<◌, ◌≤◌, SomeIff, length, map};
 ghost use Rattle.rowlist.specs.Entries.{entries_from, entries_of, entry_at, entry_size};
 ghost use Rattle.table.specs.Lines.{longest_gateway_domain, read_rows};
 ghost use Rattle.table.specs.Rows.{RowInside, bare_table, row_at, rows_size, table_at};
@@ -8,10 +10,10 @@ ghost use Rattle.rowlist_load.specs.Listed.{EntryReading, entry_line, listed_fro
 
 use mailaddr::domain::is_domain;
 use rowlist::{ENTRY_SIZE, RowEntry};
-use table::line::{LONGEST_GATEWAY_DOMAIN, LONGEST_ROW_DOMAIN, Row, RowRead, is_path};
-use table::load::{Loaded, TableRead};
+use table::line::{LONGEST_GATEWAY_DOMAIN, LONGEST_ROW_DOMAIN, Row, is_path};
+use table::load::{Loaded, Malformed, TableRead};
 use table::rows::{Key, MOST_ROWS};
-use table_load::load::{RowAdded, join_row};
+use table_load::load::join_row;
 
 // The kinds of entries: the gateway's, and rows that go one way and the other. They are the tags of a table text's lines.
 const GATEWAY_KIND: usize = 71;
@@ -20,76 +22,74 @@ const DOMAIN_KIND: usize = 68;
 
 const PATH_KIND: usize = 82;
 
-// Whether `len` bytes from `at` on are in a text of `size` bytes. Both numbers are the caller's, so they are not added: the sum could be
-// too large for a number.
-fn is_inside(at: usize, len: usize, size: usize) -> bool
-    ensures { result ≡ leb (at + len) size }
+// Where `len` bytes from `at` on end, if they are in a text of `size` bytes. Both numbers are the caller's: their sum may be too large for
+// a number.
+fn end_inside(at: usize, len: usize, size: usize) -> Option<usize>
+    ensures { SomeIff result (at + len ≤ size) (at + len) }
 {
-    if size < len {
-        return false;
-    }
-    at <= size - len
+    let end = at.checked_add(len)?;
+    if end <= size { Some(end) } else { None }
 }
 
-// Entry i of the numbers.
-fn entry_of(numbers: &[usize], i: usize) -> RowEntry
-    requires { i * entry_size + entry_size ≤ length numbers.now }
-    ensures { result ≡ entry_at numbers.now (i * entry_size) }
-{
-    let at = i * ENTRY_SIZE;
-    RowEntry {
-        kind: numbers[at],
-        domain: numbers[at + 1],
-        domain_len: numbers[at + 2],
-        path: numbers[at + 3],
-        path_len: numbers[at + 4],
+// A list of n entries, five numbers each: the text that they stand in, and their numbers.
+#[derive(Clone, Copy)]
+struct Entries<'a> {
+    text: &'a [u8],
+    numbers: &'a [usize],
+    n: usize,
+    ghost fits: { n * entry_size ≤ length numbers.now },
+}
+
+impl Entries<'_> {
+    // Entry i.
+    fn entry(&self, i: usize) -> RowEntry
+        requires { i < self.now.n }
+        ensures { result ≡ entry_at self.now.numbers.now (i * entry_size) }
+    {
+        let at = i * ENTRY_SIZE;
+        RowEntry {
+            kind: self.numbers[at],
+            domain: self.numbers[at + 1],
+            domain_len: self.numbers[at + 2],
+            path: self.numbers[at + 3],
+            path_len: self.numbers[at + 4],
+        }
     }
 }
 
-// The row of an entry of a kind, with a domain of at most `most` bytes.
-fn read_entry(text: &[u8], entry: RowEntry, kind: usize, most: usize) -> RowRead
-    requires fact { kind ≡ 9 → ⊥ }
+// The row of an entry, if it is of a kind and has a domain of at most `most` bytes and a path.
+fn read_entry(text: &[u8], entry: RowEntry, kind: usize, most: usize) -> Option<Row>
+    requires no_tab { kind ≡ 9 → ⊥ }
     requires most_le_longest_gateway_domain { most ≤ longest_gateway_domain }
     ensures { EntryReading text.now entry kind most result }
 {
     if entry.kind != kind {
-        return RowRead::Bad;
+        return None;
     }
-    if !is_inside(entry.domain, entry.domain_len, text.len()) {
-        return RowRead::Bad;
+    let domain_end = end_inside(entry.domain, entry.domain_len, text.len())?;
+    let path_end = end_inside(entry.path, entry.path_len, text.len())?;
+    if most < entry.domain_len || !is_domain(&text[entry.domain..domain_end]) {
+        return None;
     }
-    if !is_inside(entry.path, entry.path_len, text.len()) {
-        return RowRead::Bad;
+    if !is_path(text, entry.path, path_end) {
+        return None;
     }
-    if most < entry.domain_len {
-        return RowRead::Bad;
-    }
-    let domain = entry.domain;
-    let domain_end = domain + entry.domain_len;
-    if !is_domain(&text[domain..domain_end]) {
-        return RowRead::Bad;
-    }
-    let path = entry.path;
-    let path_end = path + entry.path_len;
-    if !is_path(text, path, path_end) {
-        return RowRead::Bad;
-    }
-    RowRead::Row(Row {
-        domain,
+    Some(Row {
+        domain: entry.domain,
         domain_end,
-        path,
+        path: entry.path,
         path_end,
     })
 }
 
-// Adds the row of an entry to the rows of its kind.
+// Adds the row of an entry to the rows of its kind, unless the entry is bad: the table with it.
 fn add_entry(
     text: &[u8],
     to_path: &mut [usize],
     to_domain: &mut [usize],
     table: Loaded,
     entry: RowEntry,
-) -> RowAdded
+) -> Option<Loaded>
     requires to_path_len { length to_path.old ≡ rows_size }
     requires to_domain_len { length to_domain.old ≡ rows_size }
     requires kept { Kept text.now to_path.old to_domain.old table }
@@ -98,36 +98,29 @@ fn add_entry(
         to_path.new to_domain.new }
 {
     if MOST_ROWS <= table.to_path + table.to_domain {
-        return RowAdded::Bad;
+        return None;
     }
-    match read_entry(text, entry, DOMAIN_KIND, LONGEST_ROW_DOMAIN) {
-        RowRead::Row(row) => {
-            return join_row(text, to_path, to_domain, table, row, Key::Domain);
-        }
-        RowRead::Bad => {}
+    if let Some(row) = read_entry(text, entry, DOMAIN_KIND, LONGEST_ROW_DOMAIN) {
+        return join_row(text, to_path, to_domain, table, row, Key::Domain);
     }
-    match read_entry(text, entry, PATH_KIND, LONGEST_ROW_DOMAIN) {
-        RowRead::Row(row) => join_row(text, to_path, to_domain, table, row, Key::Path),
-        RowRead::Bad => RowAdded::Bad,
-    }
+    let row = read_entry(text, entry, PATH_KIND, LONGEST_ROW_DOMAIN)?;
+    join_row(text, to_path, to_domain, table, row, Key::Path)
 }
 
 // Reads the entries behind the gateway's.
 fn load_rest(
-    text: &[u8],
-    numbers: &[usize],
-    n: usize,
+    entries: &Entries,
     to_path: &mut [usize],
     to_domain: &mut [usize],
     gateway: Row,
 ) -> TableRead
-    requires le_n { 1 ≤ n }
-    requires entry_size_in_bounds { n * entry_size ≤ length numbers.now }
+    requires le_n { 1 ≤ entries.now.n }
     requires to_path_len { length to_path.old ≡ rows_size }
     requires to_domain_len { length to_domain.old ≡ rows_size }
-    requires row_inside { RowInside text.now gateway }
-    ensures { Loading text.now
-        (read_rows 2 (bare_table (row_at text.now gateway)) (map (entry_line text.now) (entries_from numbers.now 5 (n - 1)))) result
+    requires row_inside { RowInside entries.now.text.now gateway }
+    ensures { Loading entries.now.text.now
+        (read_rows 2 (bare_table (row_at entries.now.text.now gateway))
+        (map (entry_line entries.now.text.now) (entries_from entries.now.numbers.now 5 (entries.now.n - 1)))) result
         to_path.new to_domain.new }
 {
     let mut table = Loaded {
@@ -135,19 +128,14 @@ fn load_rest(
         to_path: 0,
         to_domain: 0,
     };
-    let mut i = 1;
-    while i < n {
-        match add_entry(text, to_path, to_domain, table, entry_of(numbers, i)) {
-            RowAdded::Added(next) => {
-                table = next;
-            }
-            RowAdded::Bad => {
-                return TableRead::Malformed(i + 1);
-            }
-        }
-        i += 1;
+    for i in 1..entries.n {
+        let entry = entries.entry(i);
+        let Some(next) = add_entry(entries.text, to_path, to_domain, table, entry) else {
+            return Err(Malformed { line: i + 1 });
+        };
+        table = next;
     }
-    TableRead::Table(table)
+    Ok(table)
 }
 
 // Reads a list of n entries over a text, which may have any length. The rows go to the two lent lists, each of which has room for all.
@@ -165,15 +153,12 @@ pub fn load_entries(
         to_path.new to_domain.new }
 {
     if n == 0 {
-        return TableRead::Malformed(1);
+        return Err(Malformed { line: 1 });
     }
-    match read_entry(
-        text,
-        entry_of(numbers, 0),
-        GATEWAY_KIND,
-        LONGEST_GATEWAY_DOMAIN,
-    ) {
-        RowRead::Row(gateway) => load_rest(text, numbers, n, to_path, to_domain, gateway),
-        RowRead::Bad => TableRead::Malformed(1),
-    }
+    let entries = Entries { text, numbers, n };
+    let entry = entries.entry(0);
+    let Some(gateway) = read_entry(text, entry, GATEWAY_KIND, LONGEST_GATEWAY_DOMAIN) else {
+        return Err(Malformed { line: 1 });
+    };
+    load_rest(&entries, to_path, to_domain, gateway)
 }

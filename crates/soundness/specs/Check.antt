@@ -1,6 +1,6 @@
 -- What the check's candidates are, and what its judgements say.
 -- Assumes nothing.
-use Rattle.std.specs.Prelude.{◌≡◌, ◌⊎◌, Bool, true, false, ℕ, ◌+◌, ◌≤◌, length, get_or}
+use Rattle.std.specs.Prelude.{◌≡◌, ◌⊎◌, true, false, ℕ, ◌+◌, ◌≤◌, length, get_or, Result, Ok, Err, MatchResult}
 use mathlib.Core.List.{List, [], ◌++◌, Memᴰ}
 use Rattle.chars.specs.Lists.{bytes}
 use Rattle.oraddr.specs.Add.{add_single}
@@ -14,9 +14,8 @@ use Rattle.table_settle.specs.Settle.{add_levels, begun}
 use Rattle.soundness.specs.Fits.{fits}
 use Rattle.soundness.specs.Folded.{domain_row, fold_tokens, token_table}
 use Rattle.soundness.specs.Sound.{Sound, Witness}
-use Rattle.soundness.specs.declared.answers.CheckAnswer.{CheckAnswer}
-use Rattle.soundness.specs.declared.answers.CheckAnswer.TheVariants as answer
-use Rattle.soundness.specs.declared.answers.Checked.{Checked}
+use Rattle.soundness.specs.declared.answers.CheckRefusal.{CheckRefusal}
+use Rattle.soundness.specs.declared.answers.CheckRefusal.TheVariants.{Malformed, Unsound}
 use Rattle.soundness.specs.Tokens.{Back, Tried, fits_from, pad}
 
 -- a record with the surname Lee, so that it is no carrier
@@ -42,19 +41,9 @@ SecondBack t r d =
     (z : List Token) → fold_tokens (parts_of d) ≡ (domain_row r).val ++ z → 1 ≤ length z → length (domain_row r).key + length z ≤ level_count
     → fits_from fits (length (domain_row r).key) z ≡ true → Back (token_table t) (pad ((domain_row r).key ++ z))
 
-abbrev pub is_sound : CheckAnswer → Bool
-is_sound answer.Sound = true
-is_sound answer.Unsound = false
-is_sound (answer.Malformed l) = false
-
--- What a judgement says: that what was judged holds, with an empty record; or a witness.
-abbrev pub JudgedBy : Table → Type 0 → CheckAnswer → Record → Type 0
-JudgedBy t P answer.Sound r = P × (r ≡ empty_record)
-JudgedBy t P answer.Unsound r = Witness t r
-JudgedBy t P (answer.Malformed l) r = ⊥
-
-abbrev pub Judged : Table → Type 0 → Checked → Type 0
-Judged t P c = JudgedBy t P c.answer c.«record»
+-- What a judgement says: that what was judged holds; or a witness.
+abbrev pub Judged : Table → Type 0 → Result Unit Record → Type 0
+Judged t P c = MatchResult c (λ _. P) (Witness t)
 
 -- all first candidates, and all second ones
 abbrev pub AllFirst : Table → Type 0
@@ -67,16 +56,21 @@ pub record AllUnder (t : Table) (r : Row) : Type 0 where
 abbrev pub AllSecond : Table → Type 0
 AllSecond t = (r : Row) → Memᴰ r t.to_domain → AllUnder t r
 
--- document 01's number for each answer of the check, and the line
-abbrev pub check_number : CheckAnswer → ℕ
-check_number answer.Sound = 0
-check_number answer.Unsound = 8
-check_number (answer.Malformed l) = 7
+-- document 01's number for each answer of the check, the line, and the witness
+abbrev pub check_number : Result Unit CheckRefusal → ℕ
+check_number (Ok _) = 0
+check_number (Err (Unsound r)) = 8
+check_number (Err (Malformed l)) = 7
 
-abbrev pub check_line : CheckAnswer → ℕ
-check_line answer.Sound = 0
-check_line answer.Unsound = 0
-check_line (answer.Malformed l) = l
+abbrev pub check_line : Result Unit CheckRefusal → ℕ
+check_line (Ok _) = 0
+check_line (Err (Unsound r)) = 0
+check_line (Err (Malformed l)) = l
+
+abbrev pub check_record : Result Unit CheckRefusal → Record
+check_record (Ok _) = empty_record
+check_record (Err (Unsound r)) = r
+check_record (Err (Malformed l)) = empty_record
 
 -- What a caller gets of the check: the number, the line with 7 (else 0), a witness with 8 (else an empty record).
 pub record CheckResult : Type 0 where
@@ -84,8 +78,8 @@ pub record CheckResult : Type 0 where
   pub line : ℕ
   pub record' : Record
 
-abbrev pub told_check : Checked → CheckResult
-told_check c = record { number = check_number c.answer; line = check_line c.answer; record' = c.«record» }
+abbrev pub told_check : Result Unit CheckRefusal → CheckResult
+told_check c = record { number = check_number c; line = check_line c; record' = check_record c }
 
 -- 7, "the table is malformed": "number of the first bad line; empty record"
 pub record IsMalformed (n : ℕ) (o : CheckResult) : Type 0 where

@@ -3,17 +3,9 @@ ghost use Rattle.soundness.specs.Sound.{Sound};
 
 use oraddr::record::Record;
 
-// Document 01's answers: 0, 8, and 7 with the number of the first bad line.
+// Why the check does not accept a table: it is well formed but unsound, with a witness; or malformed, with the number of its first bad line.
 #[derive(Clone, Copy)]
-pub enum CheckAnswer {
-    Sound,
-    Unsound,
+pub enum CheckRefusal {
+    Unsound(Record),
     Malformed(usize),
-}
-
-// The answer, and with Unsound a witness; else an empty record.
-#[derive(Clone, Copy)]
-pub struct Checked {
-    pub answer: CheckAnswer,
-    pub record: Record,
 }

@@ -1,177 +1,101 @@
 // The check of a table: all candidates of all rows are judged, and the first that does not come back is the witness.
-ghost use Rattle.std.specs.Prelude.{◌≤◌};
+// That a row is one of the table's is asked beside the two: it is read out of the table once, and judged by several.
 ghost use Rattle.table.specs.Lines.{loaded_from};
-ghost use Rattle.table.specs.Rows.{Inside, RowInside};
-ghost use Rattle.table_load.specs.Load.{Ready, load_answer};
+ghost use Rattle.table_load.specs.Tables.{table_answer, table_of};
 ghost use Rattle.soundness.specs.Check.{AllFirst, AllSecond, AllUnder, Demand3, FirstBack, told_check};
 ghost use Rattle.soundness.specs.Sound.{Sound};
-ghost use Rattle.soundness_judge.specs.Judge.{Judges, JudgesRow, NextUnder, RowOf, Usable};
+ghost use Rattle.soundness_judge.specs.Judge.{Judges, JudgesRow, RowOf};
 
 use oraddr::record::Record;
-use soundness::answers::{CheckAnswer, Checked};
+use soundness::answers::CheckRefusal;
 use soundness_fresh::fresh::level_span;
-use soundness_judge::judge::{is_sound, is_under, judge_fresh, judge_pair, judge_plain, sound};
+use soundness_judge::judge::{is_under, judge_fresh, judge_pair, judge_plain};
 use table::line::Row;
-use table::load::{Loaded, TableRead};
+use table::load::Malformed;
 use table::rows::{ROWS_SIZE, row_at};
-use table_load::load::load;
+use table_load::read::read_table;
+use table_load::tables::Table;
 use table_settle::settle::count_levels;
 
 // The first candidates of a row.
-fn judge_row(
-    text: &[u8],
-    to_path: &[usize],
-    to_domain: &[usize],
-    table: Loaded,
-    row: Row,
-) -> Checked
-    requires usable { Usable text.now to_path.now to_domain.now table }
-    requires row_of { RowOf text.now to_path.now to_domain.now table row }
-    ensures { JudgesRow FirstBack text.now to_path.now to_domain.now table row result }
+fn judge_row(table: &Table, row: Row) -> Result<(), Record>
+    requires { RowOf table.now row }
+    ensures { JudgesRow FirstBack table.now row result }
 {
-    let k = count_levels(text, row.path, row.path_end);
+    let k = count_levels(table.text, row.path, row.path_end);
     if k == 2 {
-        return judge_fresh(text, to_path, to_domain, table, row, k);
+        return judge_fresh(table, row, k);
     }
-    let first = judge_plain(text, to_path, to_domain, table, row);
-    let answer = first.answer;
-    if !is_sound(answer) {
-        return first;
+    judge_plain(table, row)?;
+    if k == 3 && level_span(table.text, row.path, row.path_end, 2).len == 0 {
+        return judge_fresh(table, row, k);
     }
-    if k != 3 {
-        return first;
-    }
-    let third = level_span(text, row.path, row.path_end, 2);
-    if third.len != 0 {
-        return first;
-    }
-    judge_fresh(text, to_path, to_domain, table, row, k)
+    Ok(())
 }
 
 // The first candidates of all rows.
-fn judge_rows(text: &[u8], to_path: &[usize], to_domain: &[usize], table: Loaded) -> Checked
-    requires { Usable text.now to_path.now to_domain.now table }
-    ensures { Judges AllFirst text.now to_path.now to_domain.now table result }
+fn judge_rows(table: &Table) -> Result<(), Record>
+    ensures { Judges AllFirst table.now result }
 {
-    let mut i = 0;
-    while i < table.to_domain {
-        let done = judge_row(text, to_path, to_domain, table, row_at(to_domain, i));
-        let answer = done.answer;
-        if !is_sound(answer) {
-            return done;
-        }
-        i += 1;
+    for i in 0..table.loaded.to_domain {
+        judge_row(table, row_at(table.to_domain, i))?;
     }
-    sound()
+    Ok(())
 }
 
-// The first row to a path, from row i on, whose domain lies under a row's; n where none does. Most do not, so nothing is made for them.
-fn next_under(text: &[u8], to_path: &[usize], n: usize, row: Row, from: usize) -> usize
-    requires inside { Inside text.now to_path.now n }
-    requires row_inside { RowInside text.now row }
-    requires from_le_n { from ≤ n }
-    ensures { NextUnder text.now to_path.now n row from result }
+// The second candidates of a row and the gateway, or a row to a path. Most do not lie under it, so nothing is made for them.
+fn judge_under(table: &Table, row: Row) -> Result<(), Record>
+    requires { RowOf table.now row }
+    ensures { JudgesRow AllUnder table.now row result }
 {
-    let mut i = from;
-    while i < n {
-        let target = row_at(to_path, i);
-        let a = target.domain;
-        let b = target.domain_end;
-        if is_under(text, row, &text[a..b]) {
-            return i;
+    let gateway = table.loaded.gateway;
+    let domain = &table.text[gateway.domain..gateway.domain_end];
+    judge_pair(table, row, domain)?;
+    for i in 0..table.loaded.to_path {
+        let target = row_at(table.to_path, i);
+        let domain = &table.text[target.domain..target.domain_end];
+        let lies_under = is_under(table.text, row, domain);
+        if lies_under {
+            judge_pair(table, row, domain)?;
         }
-        i += 1;
     }
-    i
-}
-
-// The second candidates of a row and the gateway, or a row to a path.
-fn judge_under(
-    text: &[u8],
-    to_path: &[usize],
-    to_domain: &[usize],
-    table: Loaded,
-    row: Row,
-) -> Checked
-    requires usable { Usable text.now to_path.now to_domain.now table }
-    requires row_of { RowOf text.now to_path.now to_domain.now table row }
-    ensures { JudgesRow AllUnder text.now to_path.now to_domain.now table row result }
-{
-    let gateway = table.gateway;
-    let a = gateway.domain;
-    let b = gateway.domain_end;
-    let first = judge_pair(text, to_path, to_domain, table, row, &text[a..b]);
-    let answer = first.answer;
-    if !is_sound(answer) {
-        return first;
-    }
-    let n = table.to_path;
-    let mut i = next_under(text, to_path, n, row, 0);
-    while i < n {
-        let target = row_at(to_path, i);
-        let c = target.domain;
-        let d = target.domain_end;
-        let done = judge_pair(text, to_path, to_domain, table, row, &text[c..d]);
-        let answer = done.answer;
-        if !is_sound(answer) {
-            return done;
-        }
-        i = next_under(text, to_path, n, row, i + 1);
-    }
-    sound()
+    Ok(())
 }
 
 // The second candidates of all rows.
-fn judge_pairs(text: &[u8], to_path: &[usize], to_domain: &[usize], table: Loaded) -> Checked
-    requires { Usable text.now to_path.now to_domain.now table }
-    ensures { Judges AllSecond text.now to_path.now to_domain.now table result }
+fn judge_pairs(table: &Table) -> Result<(), Record>
+    ensures { Judges AllSecond table.now result }
 {
-    let mut i = 0;
-    while i < table.to_domain {
-        let done = judge_under(text, to_path, to_domain, table, row_at(to_domain, i));
-        let answer = done.answer;
-        if !is_sound(answer) {
-            return done;
-        }
-        i += 1;
+    for i in 0..table.loaded.to_domain {
+        judge_under(table, row_at(table.to_domain, i))?;
     }
-    sound()
+    Ok(())
 }
 
 // The check of a table that was loaded. All first candidates come before any second one: then no two rows share a domain, and the pairs
 // are few.
-fn check_loaded(text: &[u8], to_path: &[usize], to_domain: &[usize], table: Loaded) -> Checked
-    requires { Usable text.now to_path.now to_domain.now table }
-    ensures { Judges Sound text.now to_path.now to_domain.now table result }
+fn check_loaded(table: &Table) -> Result<(), Record>
+    ensures { Judges Sound table.now result }
 {
-    let first = judge_rows(text, to_path, to_domain, table);
-    let answer = first.answer;
-    if !is_sound(answer) {
-        return first;
-    }
-    judge_pairs(text, to_path, to_domain, table)
+    judge_rows(table)?;
+    judge_pairs(table)
 }
 
 // The check of what a table was read as.
-pub fn check_under(text: &[u8], to_path: &[usize], to_domain: &[usize], read: TableRead) -> Checked
-    requires { Ready text.now to_path.now to_domain.now read }
-    ensures { Demand3 (load_answer text.now to_path.now to_domain.now read) (told_check result) }
+pub fn check_under(read: &Result<Table, Malformed>) -> Result<(), CheckRefusal>
+    ensures { Demand3 (table_answer read.now) (told_check result) }
 {
     match read {
-        TableRead::Table(t) => check_loaded(text, to_path, to_domain, t),
-        TableRead::Malformed(line) => Checked {
-            answer: CheckAnswer::Malformed(line),
-            record: Record::empty(),
-        },
+        Ok(table) => check_loaded(table).map_err(CheckRefusal::Unsound),
+        Err(e) => Err(CheckRefusal::Malformed(e.line)),
     }
 }
 
 // The check of a table text.
-pub fn check(table: &[u8]) -> Checked
+pub fn check(table: &[u8]) -> Result<(), CheckRefusal>
     ensures { Demand3 (loaded_from table.now) (told_check result) }
 {
     let mut to_path = [0usize; ROWS_SIZE];
     let mut to_domain = [0usize; ROWS_SIZE];
-    let read = load(table, &mut to_path, &mut to_domain);
-    check_under(table, &to_path, &to_domain, read)
+    check_under(&read_table(table, &mut to_path, &mut to_domain))
 }

@@ -1,4 +1,5 @@
 // Candidates: the records whose coming back decides about all others. Each has the surname Lee, so none is a carrier.
+// A row is places without its text, since it stands by value in a loaded table: that it lies in the text is asked beside it.
 ghost use Rattle.std.specs.Prelude.{◌≡◌, [], ◌∷◌, ◌++◌, length};
 ghost use Rattle.oraddr.specs.View.{empty_record};
 ghost use Rattle.table.specs.Rows.{RowInside, row_at};
@@ -14,8 +15,7 @@ use table_settle::settle::{add_level, add_path};
 pub fn with_surname(rec: Record) -> Record
     ensures { result ≡ with_surname rec }
 {
-    let done = rec.with_single(S, b"Lee");
-    done.record
+    rec.with_single(S, b"Lee").record
 }
 
 // The levels of a row's path.
@@ -23,21 +23,16 @@ pub fn plain(text: &[u8], row: Row) -> Record
     requires { RowInside text.now row }
     ensures { result ≡ candidate_of (row_at text.now row).path }
 {
-    let done = add_path(text, row.path, row.path_end);
-    let rec = done.record;
-    with_surname(rec)
+    with_surname(add_path(text, row.path, row.path_end).record)
 }
 
 // The same with a token behind them, at level k.
 pub fn with_token(text: &[u8], row: Row, k: usize, token: &[u8]) -> Record
     requires row_inside { RowInside text.now row }
     requires k_value { k ≡ length (row_at text.now row).path }
-    requires empty_record_value { (add_levels 0 (row_at text.now row).path (begun empty_record)).number ≡ 0 }
+    requires path_fits { (add_levels 0 (row_at text.now row).path (begun empty_record)).number ≡ 0 }
     ensures { result ≡ candidate_of ((row_at text.now row).path ++ token.now ∷ []) }
 {
-    let done = add_path(text, row.path, row.path_end);
-    let rec = done.record;
-    let more = add_level(rec, k, token);
-    let levels = more.record;
-    with_surname(levels)
+    let path = add_path(text, row.path, row.path_end).record;
+    with_surname(add_level(path, k, token).record)
 }

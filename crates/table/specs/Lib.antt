@@ -4,3 +4,4 @@ pub mod Keys
 pub mod Lines
 pub mod Rows
 pub mod Table
+pub mod Props

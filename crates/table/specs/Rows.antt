@@ -1,6 +1,6 @@
 -- What the places that the code keeps stand for: a row, the rows of a list of numbers, and the table that was loaded.
 -- Assumes nothing.
-use Rattle.std.specs.Prelude.{◌≡◌, true, false, ◌&&◌, cond, List, [], ◌∷◌, ℕ, zero, suc, ◌-◌, ◌*◌, ◌+◌, ◌≤◌, ◌<◌, leb, length, get_or, take, drop}
+use Rattle.std.specs.Prelude.{◌≡◌, true, false, ◌&&◌, cond, List, [], ◌∷◌, ℕ, zero, suc, ◌-◌, ◌*◌, ◌+◌, ◌≤◌, ◌<◌, leb, length, get_or, take, drop, Option, Some, None}
 use Rattle.std.proofs.lemmas.List.Edits.{sets}
 use Rattle.chars.specs.Parts.{split}
 use Rattle.oraddr.specs.Bounds.{level_count}
@@ -34,9 +34,9 @@ pub record RowFound (s : List ℕ) (from end tag most : ℕ) (p : line.Row.Row) 
   pub path : p.path ≤ p.path_end
   pub ends : p.path_end ≡ end
 
-abbrev pub RowReading : List ℕ → ℕ → ℕ → ℕ → ℕ → line.RowRead.RowRead → Type 0
-RowReading s from end tag most (line.RowRead.TheVariants.Row p) = RowFound s from end tag most p
-RowReading s from end tag most line.RowRead.TheVariants.Bad =
+abbrev pub RowReading : List ℕ → ℕ → ℕ → ℕ → ℕ → Option line.Row.Row → Type 0
+RowReading s from end tag most (Some p) = RowFound s from end tag most p
+RowReading s from end tag most None =
     lines.has_tag tag (split 9 (between s from end)) && lines.is_row most (lines.row_of (split 9 (between s from end))) ≡ false
 
 -- The places of a row are in order, and inside the text, wherever they stand in it; its domain is no longer than any may be, and its path

@@ -1,4 +1,5 @@
 // One line of the table text, by itself: its tag, its domain and its path, each by the rules.
+// A path is handed on as its place in the table text, so that its end lies in the text is asked beside it.
 ghost use Rattle.std.specs.Prelude.{◌≡◌, ◌&&◌, ◌+◌, ◌≤◌, leb, length};
 ghost use Rattle.table.specs.Lines.{are_fields, is_field, is_path};
 ghost use Rattle.table.specs.Rows.{RowReading, fields_at};
@@ -22,26 +23,22 @@ pub struct Row {
     pub path_end: usize,
 }
 
-#[derive(Clone, Copy)]
-pub enum RowRead {
-    Row(Row),
-    Bad,
-}
-
 // Whether a field may stand for level k: a value by the record's rules; only PRMD may be empty.
 fn is_field(k: usize, s: &[u8]) -> bool
     ensures { result ≡ is_field k s.now }
 {
-    if s.len() == 0 {
+    if s.is_empty() {
         return k == PRMD;
     }
     if k < OWN_LEVELS {
-        return keeps_rule(k, s);
+        keeps_rule(k, s)
+    } else {
+        is_value(OU, s)
     }
-    is_value(OU, s)
 }
 
-// Whether the fields of a path from `at` to `end` may stand for the levels from k on, `left` of them at most.
+// Whether the fields of a path from `at` to `end` may stand for the levels from k on, `left` of them at most. (Tests
+// in the order of the definition, around a place that the last two need.)
 fn are_fields(text: &[u8], at: usize, end: usize, k: usize, left: usize) -> bool
     requires end_in_bounds { end ≤ length text.now }
     requires left_value { k + left ≡ level_count }
@@ -54,10 +51,7 @@ fn are_fields(text: &[u8], at: usize, end: usize, k: usize, left: usize) -> bool
         return false;
     }
     let stop = part_end(&text[..end], at, b'\t');
-    if !is_field(k, &text[at..stop]) {
-        return false;
-    }
-    are_fields(text, stop + 1, end, k + 1, left - 1)
+    is_field(k, &text[at..stop]) && are_fields(text, stop + 1, end, k + 1, left - 1)
 }
 
 // Whether a region of the text is a path: two to eight fields.
@@ -66,43 +60,28 @@ pub fn is_path(text: &[u8], at: usize, end: usize) -> bool
     requires end_in_bounds { end ≤ length text.now }
     ensures { result ≡ is_path (fields_at text.now at end) }
 {
-    if part_end(&text[..end], at, b'\t') == end {
-        return false;
-    }
-    are_fields(text, at, end, 0, LEVELS)
+    part_end(&text[..end], at, b'\t') != end && are_fields(text, at, end, 0, LEVELS)
 }
 
-// The row of a line that starts at `from` and ends at `end`, with the tag and a domain of at most `most` bytes.
-pub fn read_row(text: &[u8], from: usize, end: usize, tag: u8, most: usize) -> RowRead
+// The row of a line that starts at `from` and ends at `end`, if it has the tag, a domain of at most `most` bytes and a path.
+pub fn read_row(text: &[u8], from: usize, end: usize, tag: u8, most: usize) -> Option<Row>
     requires from_le_end { from ≤ end }
     requires end_in_bounds { end ≤ length text.now }
-    requires fact { tag ≡ 9 → ⊥ }
+    requires no_tab { tag ≡ 9 → ⊥ }
     ensures { RowReading text.now from end tag most result }
 {
-    if end < from + 2 {
-        return RowRead::Bad;
-    }
-    if text[from] != tag {
-        return RowRead::Bad;
-    }
-    if text[from + 1] != b'\t' {
-        return RowRead::Bad;
+    if end < from + 2 || text[from] != tag || text[from + 1] != b'\t' {
+        return None;
     }
     let domain = from + 2;
     let stop = part_end(&text[..end], domain, b'\t');
-    if stop == end {
-        return RowRead::Bad;
+    if stop == end || most < stop - domain {
+        return None;
     }
-    if most < stop - domain {
-        return RowRead::Bad;
+    if !is_domain(&text[domain..stop]) || !is_path(text, stop + 1, end) {
+        return None;
     }
-    if !is_domain(&text[domain..stop]) {
-        return RowRead::Bad;
-    }
-    if !is_path(text, stop + 1, end) {
-        return RowRead::Bad;
-    }
-    RowRead::Row(Row {
+    Some(Row {
         domain,
         domain_end: stop,
         path: stop + 1,

@@ -9,9 +9,10 @@ pub struct Loaded {
     pub to_domain: usize,
 }
 
-// A table, or the number of its first bad line, or of a list's first bad entry: document 01's number 7.
+// The number of a table's first bad line, or of a list's first bad entry: document 01's number 7.
 #[derive(Clone, Copy)]
-pub enum TableRead {
-    Table(Loaded),
-    Malformed(usize),
+pub struct Malformed {
+    pub line: usize,
 }
+
+pub type TableRead = Result<Loaded, Malformed>;

@@ -1,5 +1,6 @@
 // The rows of a loaded table, kept as numbers: four for each row, the places of its domain and its path in the table text; and behind
 // those of all rows their order, the numbers of the rows with the least key first.
+// Numbers and no `[Row]`: `places_at`, `Sorted`, `Kept` and `table_at` say what one list of numbers stands for, which callers lend.
 ghost use Rattle.std.specs.Prelude.{◌≡◌, ◌+◌, ◌*◌, ◌≤◌, ◌<◌, length};
 ghost use Rattle.table.specs.Keys.{key_place};
 ghost use Rattle.table.specs.Lines.{most_rows};
@@ -12,9 +13,9 @@ pub const MOST_ROWS: usize = 512;
 pub const ROW_SIZE: usize = 4;
 
 // Where the order starts, and the numbers of all rows with it.
-pub const ORDER: usize = 2048;
+pub const ORDER: usize = MOST_ROWS * ROW_SIZE;
 
-pub const ROWS_SIZE: usize = 2560;
+pub const ROWS_SIZE: usize = ORDER + MOST_ROWS;
 
 // What no two rows of a list have in common, and what they are ordered by: a domain leads to one path, a path to one domain.
 #[derive(Clone, Copy)]

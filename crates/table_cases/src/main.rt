@@ -8,23 +8,18 @@
 //   R LEVELS      the number of the row with the longest path that begins these eight levels, or none
 #![tactic(auto)]
 
-mod lookups;
-mod print;
-
 ghost use Rattle.std.specs.Prelude.{◌<◌, ◌≤◌, length};
 
-use cases::files::{read_file, read_full};
+use cases::files::read_file;
 use cases::lines::{line, next_line};
 use cases::parts::{front, rest};
 use cases::print::Output;
-use lookups::run_queries;
-use print::{print_malformed, print_rows};
+use cases::run::read_and_run;
 use std::io;
-use std::io::{Stdin, Stdout};
 use std::rt::Files;
-use table::load::TableRead;
 use table::rows::ROWS_SIZE;
-use table_load::load::load;
+use table_load::read::read_table;
+use table_queries::run_lookups;
 
 // Standard input, at most; a table with one byte too many.
 const ROOM: usize = 524288;
@@ -37,16 +32,8 @@ fn run_loaded(to: &mut Output, s: &[u8], at: usize, text: &[u8]) -> usize
 {
     let mut to_path = [0usize; ROWS_SIZE];
     let mut to_domain = [0usize; ROWS_SIZE];
-    match load(text, &mut to_path, &mut to_domain) {
-        TableRead::Table(t) => {
-            print_rows(to, t.to_path, t.to_domain);
-            run_queries(to, s, at, text, &to_path, &to_domain, t)
-        }
-        TableRead::Malformed(line) => {
-            print_malformed(to, line);
-            at
-        }
-    }
+    let read = read_table(text, &mut to_path, &mut to_domain);
+    run_lookups(to, s, at, read, b"none")
 }
 
 // Reads the table that the line at `at` names into the room for it, runs the look-ups that follow it, and returns where the next table's line
@@ -70,21 +57,13 @@ fn run_table(rt: &impl Files, to: &mut Output, s: &[u8], at: usize) -> usize
 
 fn run(rt: &impl Files, to: &mut Output, s: &[u8]) {
     let mut at = 0;
+    // while: a case is so many lines as it has, and table_queries tells the place behind them, not lines_of
     while at < s.len() {
         at = run_table(rt, to, s, at);
     }
 }
 
-// Reads standard input, and runs it.
-fn read_and_run(rt: &impl Files, from: Stdin, to: Stdout, space: &mut [u8]) -> io::Result<()> {
-    let mut from = from;
-    let n = read_full(&mut from, space)?;
-    let mut to = Output::new(to);
-    run(rt, &mut to, &space[..n]);
-    to.written()
-}
-
 fn main(rt: HostRuntime) -> io::Result<()> {
     let mut space = [0u8; ROOM];
-    read_and_run(&rt, rt.stdin(), rt.stdout(), &mut space)
+    read_and_run(rt.stdin(), rt.stdout(), &mut space, |to, s| run(&rt, to, s))
 }

@@ -1,1 +1,3 @@
 pub mod Load
+pub mod Props
+pub mod Tables

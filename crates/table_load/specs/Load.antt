@@ -1,6 +1,6 @@
 -- What the answers of loading stand for: a row added to those of its key, a line's row added, and a table text read.
 -- Assumes nothing.
-use Rattle.std.specs.Prelude.{◌≡◌, Bool, true, false, not, List, [], ◌∷◌, ◌++◌, ℕ, ◌+◌, ◌≤◌}
+use Rattle.std.specs.Prelude.{◌≡◌, Bool, true, false, not, List, [], ◌∷◌, ◌++◌, ℕ, ◌+◌, ◌≤◌, Option, Some, None, Result, Ok, Err}
 use Rattle.chars.specs.Lists.{all}
 use Rattle.chars.specs.Parts.{split}
 use Rattle.table.specs.Table.{Row, Table}
@@ -9,12 +9,9 @@ use Rattle.table.specs.Lines as lines
 use Rattle.table.specs.Lines.{bad_row, malformed, most_rows, same_domain, same_path, well_formed, with_row}
 use Rattle.table.specs.Rows.{RowInside, table_at}
 use Rattle.table.specs.declared.load as loaded
-use Rattle.table.specs.declared.load.TableRead.TheVariants.{Table as TableFound, Malformed}
 use Rattle.table.specs.declared.rows.Key.{Key}
 use Rattle.table.specs.declared.rows.Key.TheVariants.{Domain, Path}
 use Rattle.table_order.specs.Place.{Sorted}
-use Rattle.table_load.specs.declared.load as load
-use Rattle.table_load.specs.declared.load.RowAdded.TheVariants.{Added, Bad}
 
 -- A loaded table is in order: its places are in the text, the rows of each list stand in the order of their keys, and they are few enough.
 pub record Kept (s ds rs : List ℕ) (t : loaded.Loaded.Loaded) : Type 0 where
@@ -41,9 +38,9 @@ pub record JoinedRow (s : List ℕ) (before : Table) (k : Key) (r : Row) (ds rs 
   pub table : table_at s ds rs t ≡ with_keyed before k r
   pub kept : Kept s ds rs t
 
-abbrev pub Joining : List ℕ → Table → Key → Row → load.RowAdded.RowAdded → List ℕ → List ℕ → Type 0
-Joining s before k r (Added t) ds rs = JoinedRow s before k r ds rs t
-Joining s before k r Bad ds rs = is_new_in before k r ≡ false
+abbrev pub Joining : List ℕ → Table → Key → Row → Option loaded.Loaded.Loaded → List ℕ → List ℕ → Type 0
+Joining s before k r (Some t) ds rs = JoinedRow s before k r ds rs t
+Joining s before k r None ds rs = is_new_in before k r ≡ false
 
 -- ---- a line
 
@@ -53,28 +50,23 @@ pub record Joined (s : List ℕ) (before : Table) (l : lines.Line) (ds rs : List
   pub table : table_at s ds rs t ≡ with_row before (split 9 l.text)
   pub kept : Kept s ds rs t
 
-abbrev pub Adding : List ℕ → Table → lines.Line → load.RowAdded.RowAdded → List ℕ → List ℕ → Type 0
-Adding s before l (Added t) ds rs = Joined s before l ds rs t
-Adding s before l Bad ds rs = bad_row before l ≡ true
-
--- the answer for a row that is new, or is not
-abbrev pub added_if : Bool → loaded.Loaded.Loaded → load.RowAdded.RowAdded
-added_if true t = Added t
-added_if false t = Bad
+abbrev pub Adding : List ℕ → Table → lines.Line → Option loaded.Loaded.Loaded → List ℕ → List ℕ → Type 0
+Adding s before l (Some t) ds rs = Joined s before l ds rs t
+Adding s before l None ds rs = bad_row before l ≡ true
 
 -- what the answer of reading a table text says of it: the table that it spells, or the number of its first bad line
-unfoldable pub load_answer : List ℕ → List ℕ → List ℕ → loaded.TableRead.TableRead → lines.TableOutcome
+unfoldable pub load_answer : List ℕ → List ℕ → List ℕ → Result loaded.Loaded.Loaded loaded.Malformed.Malformed → lines.TableOutcome
 unfolding table_at
-load_answer s ds rs (TableFound t) = well_formed (table_at s ds rs t)
-load_answer s ds rs (Malformed n) = malformed n
+load_answer s ds rs (Ok t) = well_formed (table_at s ds rs t)
+load_answer s ds rs (Err e) = malformed e.line
 
 -- a table that was answered is in order
-abbrev pub KeptBy : List ℕ → List ℕ → List ℕ → loaded.TableRead.TableRead → Type 0
-KeptBy s ds rs (TableFound t) = Kept s ds rs t
-KeptBy s ds rs (Malformed n) = Unit
+abbrev pub KeptBy : List ℕ → List ℕ → List ℕ → Result loaded.Loaded.Loaded loaded.Malformed.Malformed → Type 0
+KeptBy s ds rs (Ok t) = Kept s ds rs t
+KeptBy s ds rs (Err e) = Unit
 
 -- Reading a table text that comes to l.
-pub record Loading (s : List ℕ) (l : lines.TableOutcome) (r : loaded.TableRead.TableRead) (ds rs : List ℕ) : Type 0 where
+pub record Loading (s : List ℕ) (l : lines.TableOutcome) (r : Result loaded.Loaded.Loaded loaded.Malformed.Malformed) (ds rs : List ℕ) : Type 0 where
   pub answers : load_answer s ds rs r ≡ l
   pub kept : KeptBy s ds rs r
 
@@ -86,6 +78,6 @@ FormedBy (malformed n) = Unit
 FormedBy (well_formed t) = Formed t
 
 -- a loaded table is in order and keeps its rules
-abbrev pub Ready : List ℕ → List ℕ → List ℕ → loaded.TableRead.TableRead → Type 0
-Ready s ds rs (TableFound t) = Kept s ds rs t × Formed (table_at s ds rs t)
-Ready s ds rs (Malformed n) = Unit
+abbrev pub Ready : List ℕ → List ℕ → List ℕ → Result loaded.Loaded.Loaded loaded.Malformed.Malformed → Type 0
+Ready s ds rs (Ok t) = Kept s ds rs t × Formed (table_at s ds rs t)
+Ready s ds rs (Err e) = Unit

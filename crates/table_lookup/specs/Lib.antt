@@ -3,3 +3,5 @@ pub mod Levels
 pub mod Looked
 pub mod Lookup
 pub mod Search
+pub mod Props
+pub mod Tokens

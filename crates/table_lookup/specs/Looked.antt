@@ -1,6 +1,7 @@
 -- What the two look-ups are given and what they answer, by the places that the code keeps.
 -- Assumes nothing.
-use Rattle.std.specs.Prelude.{◌≡◌, Bool, true, false, not, List, [], ◌∷◌, ◌++◌, ℕ, zero, suc, ◌+◌, ◌*◌, ◌≤◌, ◌<◌, eqb, length, get_or}
+use Rattle.std.specs.Prelude.{◌≡◌, Bool, true, false, not, List, [], ◌∷◌, ◌++◌, ℕ, zero, suc, ◌+◌, ◌*◌, ◌≤◌, ◌<◌, eqb, length, get_or, Some, None}
+use Rattle.std.specs.Prelude as prelude
 use Rattle.std.proofs.Math.Option.{Option, none, some}
 use Rattle.chars.specs.Lists.{all}
 use Rattle.table.specs.Table.{Row, Token}
@@ -8,8 +9,6 @@ use Rattle.table.specs.Rows.{between, places_at, row_at, rows_at}
 use Rattle.table_lookup.specs.Lookup.{RowKey, look}
 use Rattle.table_lookup.specs.declared.level.LevelKind.{LevelKind}
 use Rattle.table_lookup.specs.declared.level.LevelKind.TheVariants.{Named, Omitted, NotReached}
-use Rattle.table_lookup.specs.declared.search.Found.{Found}
-use Rattle.table_lookup.specs.declared.search.Found.TheVariants.{At, Nowhere}
 use Rattle.oraddr.specs.Bounds.{O, bound_of, level_count}
 
 -- a level is reached, and where it is named it stands in the text
@@ -41,17 +40,17 @@ pub record Ended (s ends : List ℕ) (n : ℕ) : Type 0 where
   pub inside : (k : ℕ) → k < n → get_or ends (k + 1) 0 ≤ length s
 
 -- the row that was found, one of the first n
-unfoldable pub found_row : List ℕ → List ℕ → Found → Option Row
+unfoldable pub found_row : List ℕ → List ℕ → prelude.Option ℕ → Option Row
 unfolding row_at places_at
-found_row s ns Nowhere = none
-found_row s ns (At i) = some (row_at s (places_at ns i))
+found_row s ns None = none
+found_row s ns (Some i) = some (row_at s (places_at ns i))
 
-abbrev pub Below : ℕ → Found → Type 0
-Below n Nowhere = Unit {0}
-Below n (At i) = i < n
+abbrev pub Below : ℕ → prelude.Option ℕ → Type 0
+Below n None = Unit {0}
+Below n (Some i) = i < n
 
 -- A look-up in the first n rows.
-pub record Looked (key : RowKey) (s ns : List ℕ) (n : ℕ) (q : List Token) (r : Found) : Type 0 where
+pub record Looked (key : RowKey) (s ns : List ℕ) (n : ℕ) (q : List Token) (r : prelude.Option ℕ) : Type 0 where
   pub row : look key (rows_at s ns n) q ≡ found_row s ns r
   pub below : Below n r
 

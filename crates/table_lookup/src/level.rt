@@ -1,5 +1,6 @@
 // The levels of a path, read from the table text one at a time. A path is a region of the text, fields with a tab between each
 // two.
+// A path is handed on as its place in the table text, so that its end lies in the text is asked beside it.
 ghost use Rattle.std.specs.Prelude.{◌≤◌, length};
 ghost use Rattle.table_lookup.specs.Levels.{Levelled};
 

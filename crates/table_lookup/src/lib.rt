@@ -3,5 +3,6 @@
 
 pub mod extend;
 pub mod level;
+pub mod levels;
 pub mod lookup;
 pub mod search;

@@ -3,3 +3,4 @@ pub mod Insert
 pub mod Order
 pub mod Place
 pub mod Spell
+pub mod Props

@@ -1,3 +1,5 @@
 pub mod Insert
 pub mod Order
 pub mod Place
+pub mod Props
+pub mod Ranks

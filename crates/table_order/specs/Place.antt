@@ -1,15 +1,13 @@
 -- Rows in order, as the code keeps them: beside the places of the rows a list of their numbers, the number of the row with the least key
 -- first. What a search by halving in it is given, and what it finds.
 -- Assumes nothing.
-use Rattle.std.specs.Prelude.{◌≡◌, true, false, cond, List, ℕ, suc, ◌+◌, ◌-◌, ◌*◌, ◌≤◌, ◌<◌, leb, ltb, length, get_or}
+use Rattle.std.specs.Prelude.{◌≡◌, true, false, List, ℕ, suc, ◌+◌, ◌-◌, ◌*◌, ◌≤◌, ◌<◌, length, get_or}
 use Rattle.table.specs.Table.{Token}
 use Rattle.table.specs.Keys.{key_text}
 use Rattle.table.specs.Lines.{most_rows}
 use Rattle.table.specs.Rows.{Inside, RowInside, order_start, places_at}
 use Rattle.table.specs.declared.rows.Key.{Key}
 use Rattle.table_order.specs.Order.{key_tokens, key_up_to, shared, spell_by, under}
-use Rattle.table_order.specs.declared.compare.ByRank.{ByRank}
-use Rattle.table_order.specs.declared.compare.ByRank.TheVariants.{Greater, Less, Same}
 use Rattle.table_order.specs.declared.compare.Compared.{Compared}
 use Rattle.table_order.specs.declared.place.Place.{Place}
 use Rattle.table_order.specs.declared.place.Range.{Range}
@@ -48,13 +46,6 @@ pub record Sorted (k : Key) (s ns : List ℕ) (n : ℕ) : Type 0 where
 pub record Comparing (p q : List ℕ) (r : Compared) : Type 0 where
   pub many : r.shared ≡ shared p q
   pub less : r.under ≡ under p q
-
--- how two ranks compare
-unfoldable pub by_rank : ℕ → ℕ → ByRank
-by_rank p q = cond (ltb p q) Less (cond (ltb q p) Greater Same)
-
-unfoldable pub lesser : ℕ → ℕ → ℕ
-lesser a b = cond (leb a b) a b
 
 -- the key at place i of the order, as ranks
 unfoldable pub ranks_in : Key → List ℕ → List ℕ → ℕ → List ℕ

@@ -1,10 +1,13 @@
 // Two keys compared rank by rank: paths from the left, domains from the right. A separator ranks below any other byte, so that a key
 // comes before those that go on behind it, and letter case is aside.
+// A bound on a place is asked where it is used: it ties two parameters of one call, and a struct of the two would be made for each.
 ghost use Rattle.std.specs.Prelude.{◌≡◌, true, ◌&&◌, ◌≤◌, ◌<◌, get_or, length};
+ghost use Rattle.std.specs.Ordering.{nat_cmp};
 ghost use Rattle.table_order.specs.Order.{rank, read_by, separator, shared, spell_by};
-ghost use Rattle.table_order.specs.Place.{Comparing, EqualUpTo, block_size, by_rank, lesser};
+ghost use Rattle.table_order.specs.Place.{Comparing, EqualUpTo, block_size};
 
 use chars::case::fold_case;
+use std::cmp::Ordering;
 use table::rows::Key;
 
 // How many bytes are compared at a time where they are likely to be equal.
@@ -15,12 +18,6 @@ const BLOCK_SIZE: usize = 16;
 pub struct Compared {
     pub shared: usize,
     pub under: bool,
-}
-
-pub fn least(a: usize, b: usize) -> usize
-    ensures { result ≡ lesser a b }
-{
-    if a <= b { a } else { b }
 }
 
 // What parts a key's tokens.
@@ -44,51 +41,23 @@ pub fn byte_by(key: Key, s: &[u8], i: usize) -> u8
     }
 }
 
-fn wide(b: u8) -> usize
-    ensures { result ≡ b }
-{
-    b as usize
-}
-
 fn rank_of(sep: u8, b: u8) -> usize
     ensures { result ≡ rank sep b }
 {
     if b == sep {
         return 0;
     }
-    wide(fold_case(b)) + 1
+    fold_case(b) as usize + 1
 }
 
-// How two bytes compare by rank.
-#[derive(Clone, Copy)]
-pub enum ByRank {
-    Same,
-    Less,
-    Greater,
-}
-
-// Equal bytes have one rank, which is asked first since most are equal.
-fn compare_bytes(sep: u8, x: u8, y: u8) -> ByRank
-    ensures { result ≡ by_rank (rank sep x) (rank sep y) }
+// How two bytes compare by rank. Equal bytes have one rank, which is asked first since most are equal.
+fn compare_bytes(sep: u8, x: u8, y: u8) -> Ordering
+    ensures { result ≡ nat_cmp (rank sep x) (rank sep y) }
 {
     if x == y {
-        return ByRank::Same;
+        return Ordering::Equal;
     }
-    let p = rank_of(sep, x);
-    let q = rank_of(sep, y);
-    if p < q {
-        return ByRank::Less;
-    }
-    if q < p {
-        return ByRank::Greater;
-    }
-    ByRank::Same
-}
-
-fn both(a: bool, b: bool) -> bool
-    ensures { result ≡ (a && b) }
-{
-    if a { b } else { false }
+    rank_of(sep, x).cmp(&rank_of(sep, y))
 }
 
 // Whether two blocks of bytes are equal. All are looked at, also behind one that differs: the loop then has no branch, and takes all of
@@ -98,10 +67,8 @@ fn equal_block(a: &[u8], b: &[u8]) -> bool
     ensures { result ≡ true → EqualUpTo a.now b.now 0 block_size block_size }
 {
     let mut same = true;
-    let mut i = 0;
-    while i < BLOCK_SIZE {
-        same = both(same, a[i] == b[i]);
-        i += 1;
+    for i in 0..BLOCK_SIZE {
+        same &= a[i] == b[i];
     }
     same
 }
@@ -112,6 +79,7 @@ fn equal_blocks(a: &[u8], b: &[u8], from: usize, end: usize) -> usize
     ensures { EqualUpTo a.now b.now from end result }
 {
     let mut i = from;
+    // while: a block at a time, and the place of the first that differs is the answer
     while BLOCK_SIZE <= end - i {
         let next = i + BLOCK_SIZE;
         if !equal_block(&a[i..next], &b[i..next]) {
@@ -140,27 +108,26 @@ pub fn compare(key: Key, a: &[u8], b: &[u8], from: usize) -> Compared
     ensures { Comparing (spell_by key a.now) (spell_by key b.now) result }
 {
     let sep = separator_of(key);
-    let end = least(a.len(), b.len());
-    let mut i = pass_equal(key, a, b, from, end);
-    while i < end {
+    let end = a.len().min(b.len());
+    let start = pass_equal(key, a, b, from, end);
+    for i in start..end {
         let x = byte_by(key, a, i);
         let y = byte_by(key, b, i);
         match compare_bytes(sep, x, y) {
-            ByRank::Same => {}
-            ByRank::Less => {
+            Ordering::Equal => {}
+            Ordering::Less => {
                 return Compared {
                     shared: i,
                     under: true,
                 };
             }
-            ByRank::Greater => {
+            Ordering::Greater => {
                 return Compared {
                     shared: i,
                     under: false,
                 };
             }
         }
-        i += 1;
     }
     Compared {
         shared: end,

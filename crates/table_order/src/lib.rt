@@ -4,3 +4,4 @@
 pub mod compare;
 pub mod insert;
 pub mod place;
+pub mod rows;

@@ -1,6 +1,6 @@
 -- Document 01, "Address to record" step 1: the record of the levels that a domain settles, or why there is none.
 -- Assumes nothing.
-use Rattle.std.specs.Prelude.{ℕ, zero, suc, ◌+◌, cond, List, [], ◌∷◌, ltb, eqb, length, take}
+use Rattle.std.specs.Prelude.{ℕ, zero, suc, ◌+◌, cond, List, [], ◌∷◌, ltb, eqb, length, take, Result, Ok, Err}
 use Rattle.std.proofs.Math.Option.{Option, none, some}
 use Rattle.chars.specs.Case.{same_text}
 use Rattle.chars.specs.Lists.{non_empty}
@@ -11,9 +11,9 @@ use Rattle.oraddr.specs.declared.record.Record.{Record}
 use Rattle.table.specs.Table.{Row, Token}
 use Rattle.table_lookup.specs.Begins.{resolve_by}
 use Rattle.table_lookup.specs.Lookup.{resolve}
-use Rattle.table_settle.specs.declared.settle.Settled.{Settled}
-use Rattle.table_settle.specs.declared.settle.Settled.TheVariants.{Levels, NoRow, PastUnits, PastBound}
 use Rattle.table_settle.specs.declared.settle.Settlement.{Settlement}
+use Rattle.table_settle.specs.declared.settle.Unsettled.{Unsettled}
+use Rattle.table_settle.specs.declared.settle.Unsettled.TheVariants.{NoRow, PastUnits, PastBound}
 use Rattle.oraddr.specs.Bounds.{level_count}
 
 -- a record before an addition
@@ -66,11 +66,8 @@ left_parts d zero = []
 left_parts d (suc n) = parts_of (take n d)
 
 -- what the code's answer says
-abbrev pub answer_of : Settled → Record → Settling
-answer_of (Levels n) r = settled n r
-answer_of NoRow r = no_row
-answer_of PastUnits r = past_units
-answer_of PastBound r = past_bound
-
-abbrev pub settlement_answer : Settlement → Settling
-settlement_answer s = answer_of s.answer s.«record»
+abbrev pub settlement_answer : Result Settlement Unsettled → Settling
+settlement_answer (Ok s) = settled s.levels s.«record»
+settlement_answer (Err NoRow) = no_row
+settlement_answer (Err PastUnits) = past_units
+settlement_answer (Err PastBound) = past_bound

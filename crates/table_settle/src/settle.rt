@@ -1,4 +1,6 @@
 // Step 1 of "Address to record": the levels that a domain settles, by its row and the parts left over, added to a record.
+// A path is handed on as its place in the table text, so that its end lies in the text is asked beside it.
+// A row is places without its text, since it stands by value in a loaded table: that it lies in the text is asked beside it.
 ghost use Rattle.std.specs.Prelude.{◌≡◌, ◌++◌, ◌+◌, ◌-◌, ◌≤◌, length, take};
 ghost use Rattle.std.proofs.Math.Option.{some};
 ghost use Rattle.chars.specs.Write.{Wrote};
@@ -18,22 +20,20 @@ use table::line::Row;
 use table::rows::row_at;
 use table_lookup::level::level_at;
 use table_lookup::lookup::{find_domain, is_reached};
-use table_lookup::search::Found;
 
-// What step 1 comes to. The number of settled levels counts omitted ones too.
+// What step 1 comes to: how many levels are settled, omitted ones too, and the record that has them.
 #[derive(Clone, Copy)]
-pub enum Settled {
-    Levels(usize),
+pub struct Settlement {
+    pub levels: usize,
+    pub record: Record,
+}
+
+// Why a domain settles no levels.
+#[derive(Clone, Copy, Debug, PartialEq, Eq)]
+pub enum Unsettled {
     NoRow,
     PastUnits,
     PastBound,
-}
-
-// The answer, and with Levels the record that has them. Of the record with any other nothing is promised.
-#[derive(Clone, Copy)]
-pub struct Settlement {
-    pub answer: Settled,
-    pub record: Record,
 }
 
 // Notes in `nexts`, from place k on, where the level behind each level of a path would start: one after the other, until no level is
@@ -111,9 +111,9 @@ fn add_laid(text: &[u8], at: usize, end: usize, nexts: &[usize]) -> Addition
     };
     let mut from = at;
     let mut k = 0;
+    // while: `nexts` says where each level starts, and a `for` over it would need the path's end, which the clauses name, as a ghost value
     while from <= end {
-        let answer = done.answer;
-        if let Added::Refused = answer {
+        if let Added::Refused = done.answer {
             return done;
         }
         let next = nexts[k];
@@ -144,9 +144,9 @@ fn add_parts(path: Addition, domain: &[u8], start: usize, k: usize) -> Addition
     let mut done = path;
     let mut from = start;
     let mut i = k;
+    // while: the parts are taken from the right, each in front of the one before it, until a refusal
     while 0 < from {
-        let answer = done.answer;
-        if let Added::Refused = answer {
+        if let Added::Refused = done.answer {
             return done;
         }
         let end = from - 1;
@@ -157,32 +157,21 @@ fn add_parts(path: Addition, domain: &[u8], start: usize, k: usize) -> Addition
     done
 }
 
-fn without_record(answer: Settled) -> Settlement
-    ensures { result.answer ≡ answer }
-{
-    Settlement {
-        answer,
-        record: Record::empty(),
-    }
-}
-
 // The settlement after all additions.
-fn settled_as(done: Addition, n: usize) -> Settlement
+fn settled_as(done: Addition, n: usize) -> Result<Settlement, Unsettled>
     ensures { settlement_answer result ≡ settled_as n (told done) }
 {
-    let answer = done.answer;
-    let rec = done.record;
-    match answer {
-        Added::Done => Settlement {
-            answer: Settled::Levels(n),
-            record: rec,
-        },
-        Added::Refused => without_record(Settled::PastBound),
+    match done.answer {
+        Added::Done => Ok(Settlement {
+            levels: n,
+            record: done.record,
+        }),
+        Added::Refused => Err(Unsettled::PastBound),
     }
 }
 
 // The levels of a row's path and then the parts of what a domain has in front of the row's domain.
-pub fn settle_row(text: &[u8], row: Row, domain: &[u8]) -> Settlement
+pub fn settle_row(text: &[u8], row: Row, domain: &[u8]) -> Result<Settlement, Unsettled>
     requires row_inside { RowInside text.now row }
     requires domain_in_bounds { row.domain_end - row.domain ≤ length domain.now }
     ensures { settlement_answer result ≡ settled_from
@@ -196,19 +185,19 @@ pub fn settle_row(text: &[u8], row: Row, domain: &[u8]) -> Settlement
     let start = domain.len() - own;
     let n = count_left(domain, start);
     if LEVELS - k < n {
-        return without_record(Settled::PastUnits);
+        return Err(Unsettled::PastUnits);
     }
     let path = add_laid(text, at, end, &nexts);
     settled_as(add_parts(path, domain, start, k), k + n)
 }
 
 // The levels that a domain settles, by the first n rows.
-pub fn settle(text: &[u8], rows: &[usize], n: usize, domain: &[u8]) -> Settlement
+pub fn settle(text: &[u8], rows: &[usize], n: usize, domain: &[u8]) -> Result<Settlement, Unsettled>
     requires { Sorted Domain text.now rows.now n }
     ensures { settlement_answer result ≡ settling (rows_at text.now rows.now n) domain.now }
 {
-    match find_domain(text, rows, n, domain) {
-        Found::At(i) => settle_row(text, row_at(rows, i), domain),
-        Found::Nowhere => without_record(Settled::NoRow),
-    }
+    let Some(i) = find_domain(text, rows, n, domain) else {
+        return Err(Unsettled::NoRow);
+    };
+    settle_row(text, row_at(rows, i), domain)
 }

@@ -1,4 +1,5 @@
 // What the program prints of a reading and of a name.
+// That a record is canonical is asked beside it: most callers have proved it of what they made, and a type for it would be taken apart again by each reader.
 ghost use Rattle.std.specs.Prelude.{◌≡◌, true, ◌+◌, ◌*◌, ◌≤◌, length};
 ghost use Rattle.oraddr.specs.Canonical.{canonical_record};
 ghost use Rattle.ortext_name.specs.Places.{Placed};
@@ -6,8 +7,8 @@ ghost use Rattle.ortext_name.specs.Places.{Placed};
 use cases::print::{Output, say};
 use oraddr::record::Record;
 use oraddr_canonical::canonical::is_canonical;
-use ortext_name::name::{NamePlaces, NameRead, put_initials, read_name};
-use ortext_read::read::{Answer, Reading};
+use ortext_name::name::{NamePlaces, put_initials, read_name};
+use ortext_read::read::TextFault;
 use ortext_write::write::{LONGEST_TEXT, write_local, write_text};
 
 // The record text of a canonical record.
@@ -33,10 +34,8 @@ fn print_local(to: &mut Output, rec: Record, from: usize)
 fn print_locals(to: &mut Output, rec: Record)
     requires { canonical_record rec ≡ true }
 {
-    let mut from = 0;
-    while from < 9 {
+    for from in 0..9 {
         print_local(to, rec, from);
-        from += 1;
     }
 }
 
@@ -50,13 +49,12 @@ fn print_record(to: &mut Output, rec: Record) {
     print_locals(to, rec);
 }
 
-pub(crate) fn print_reading(to: &mut Output, r: Reading) {
-    let answer = r.answer;
-    match answer {
-        Answer::Done => print_record(to, r.record),
-        Answer::Unread => say(to, b"unread"),
-        Answer::Refused => say(to, b"refused"),
-        Answer::Again => say(to, b"again"),
+pub(crate) fn print_reading(to: &mut Output, read: Result<Record, TextFault>) {
+    match read {
+        Ok(rec) => print_record(to, rec),
+        Err(TextFault::Unread) => say(to, b"unread"),
+        Err(TextFault::Refused) => say(to, b"refused"),
+        Err(TextFault::Again) => say(to, b"again"),
     }
 }
 
@@ -76,18 +74,16 @@ fn print_initials(to: &mut Output, s: &[u8], from: usize, n: usize)
 fn print_places(to: &mut Output, s: &[u8], p: NamePlaces)
     requires { Placed s.now p }
 {
-    let given = p.given;
-    say(to, &s[..given]);
+    say(to, &s[..p.given]);
     say(to, b"\t");
     print_initials(to, s, p.from, p.initials);
     say(to, b"\t");
-    let surname = p.surname;
-    say(to, &s[surname..]);
+    say(to, &s[p.surname..]);
 }
 
 pub(crate) fn print_name(to: &mut Output, s: &[u8]) {
     match read_name(s) {
-        NameRead::Name(p) => print_places(to, s, p),
-        NameRead::NoName => say(to, b"no name"),
+        Some(p) => print_places(to, s, p),
+        None => say(to, b"no name"),
     }
 }

@@ -9,14 +9,7 @@ pub(crate) fn levels(digit: u8) -> usize
     ensures { result ≤ 8 }
 {
     match digit {
-        b'1' => 1,
-        b'2' => 2,
-        b'3' => 3,
-        b'4' => 4,
-        b'5' => 5,
-        b'6' => 6,
-        b'7' => 7,
-        b'8' => 8,
+        b'1'..=b'8' => (digit - b'0') as usize,
         b'9' => 3,
         _ => 0,
     }
@@ -53,23 +46,19 @@ fn with_level(rec: Record, k: usize) -> Record
     ensures { result.dds ≡ rec.dds }
 {
     if k < 4 {
-        let done = with_single(rec, k);
-        return done.record;
+        with_single(rec, k).record
+    } else {
+        with_unit(rec, k).record
     }
-    let done = with_unit(rec, k);
-    done.record
 }
 
 // The record with the levels that a digit settles. No DD is settled.
 pub(crate) fn base(digit: u8) -> Record
     ensures { result.dds.count ≡ 0 }
 {
-    let n = filled(digit);
     let mut rec = Record::empty();
-    let mut k = 0;
-    while k < n {
+    for k in 0..filled(digit) {
         rec = with_level(rec, k);
-        k += 1;
     }
     rec
 }

@@ -1,15 +1,15 @@
 -- Laws of folding and of comparing: `fold_case`, `fold_text`, and `agree` over any test, of which `same_text` and `equal_text` are two.
 -- Assumes nothing.
+use Rattle.std.specs.List.{list_all, zip}
 use mathlib.Core.Path.{◌≡◌, refl, sym, ap, ◌∙◌}
 use mathlib.Core.Bool.{Bool, true, false, ◌&&◌, and_assoc, and-false}
 use mathlib.Core.List.{List, [], ◌∷◌, ◌++◌}
 use Prim.Native.Nat.{ℕ, zero, suc, ◌+◌, ◌≤◌, ◌<◌}
 use native.Mathlib.Nat.{suc_inj, suc-ne-zero}
-use native.Mathlib.Numerals.{add-one}
 use native.Mathlib.Omega.{arith}
 use lib.Dec.{eqb, leb}
-use lib.ListN.{length, get_or, drop, length-map, drop_of_length-le}
-use lib.Seq.{drop-cons}
+use lib.ListN.{length, get_or, length-map}
+use lib.Pointwise.{pointwise}
 use borrow.Author.Tests.{eq-eqb, eqb-true, leb-true, leb-false, le-leb, lt-leb}
 use Rattle.chars.specs.Lists.{all, bytes, first, last, member}
 use Rattle.chars.specs.Class.{between, is_atom_char, is_digit, is_in, is_label_char, is_letter, is_printable, is_quotable}
@@ -138,15 +138,15 @@ module _ {A : Type 0} (e : A → A → Bool) where
   agree-append [] s' (y ∷ t) t' l = absurd (suc-ne-zero (length t) (sym l))
   agree-append (x ∷ s) s' [] t' l = absurd (suc-ne-zero (length s) l)
   agree-append (x ∷ s) s' (y ∷ t) t' l = rw (agree-append s s' t t' (suc_inj l), and_assoc)
-
   -- what a loop has left of two lists
-  pub agree_step : (s t : List A) (i : ℕ) (d : A) → i < length s → i < length t → agree e (drop i s) (drop i t) ≡ (e (get_or s i d) (get_or t i d) && agree e (drop (i + 1) s) (drop (i + 1) t))
-  unfolding agree
-  agree_step s t i d h k = rw (add-one, drop-cons s i d, drop-cons t i d)
 
-  pub agree-end : (s t : List A) (i : ℕ) → length s ≤ i → length t ≤ i → agree e (drop i s) (drop i t) ≡ true
-  unfolding agree
-  agree-end s t i h k = rw (drop_of_length-le s, drop_of_length-le t)
+-- lists that are as long agree where each pair of their elements does
+pub agree_zip : {A : Type 0} (e : A → A → Bool) (s t : List A) → length s ≡ length t → list_all (λ p. e p.0 p.1) (zip s t) ≡ agree e s t
+unfolding agree
+agree_zip e [] [] l = refl
+agree_zip e [] (y ∷ t) l = absurd (suc-ne-zero (length t) (sym l))
+agree_zip e (x ∷ s) [] l = absurd (suc-ne-zero (length s) l)
+agree_zip e (x ∷ s) (y ∷ t) l = rw (agree_zip e s t (suc_inj l))
 
 -- agreeing lists agree at each place, past their ends by the default
 pub agree_at : {A : Type 0} (e : A → A → Bool) (d : A) → e d d ≡ true → (s t : List A) (i : ℕ) → agree e s t ≡ true → e (get_or s i d) (get_or t i d) ≡ true
@@ -166,6 +166,14 @@ equal-path [] (y ∷ t) h = true_not_false true refl (sym h)
 equal-path (x ∷ s) [] h = true_not_false true refl (sym h)
 equal-path (x ∷ s) (y ∷ t) h =
     rw (eqb-true x y (and_left (eqb x y) (agree eqb s t) h), equal-path s t (and_right (eqb x y) (agree eqb s t) h))
+
+-- as `==` compares two slices
+pub equal-pointwise : (s t : List ℕ) → pointwise eqb s t ≡ equal_text s t
+unfolding equal_text agree
+equal-pointwise [] [] = refl
+equal-pointwise [] (y ∷ t) = refl
+equal-pointwise (x ∷ s) [] = refl
+equal-pointwise (x ∷ s) (y ∷ t) = rw (equal-pointwise s t)
 
 pub equal_refl : (s : List ℕ) → equal_text s s ≡ true
 unfolding equal_text

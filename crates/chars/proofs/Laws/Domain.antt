@@ -1,12 +1,12 @@
 -- Laws of domain parts: what refuses one, test by test, that letter case is no matter, and that a domain part is an atom.
 -- Assumes nothing.
 use mathlib.Core.Path.{◌≡◌, refl}
-use Prim.Native.Nat.{ℕ, ◌-◌, ◌≤◌, ◌<◌}
+use Prim.Native.Nat.{ℕ, ◌-◌, ◌≤◌}
 use native.Mathlib.Omega.{arith}
 use mathlib.Core.Bool.{Bool, true, false, not, ◌&&◌, and-false, and-true}
 use mathlib.Core.List.{List}
-use borrow.Author.Tests.{eq-eqb, ne_eqb, leb-true, le-leb, lt-leb}
-use lib.Dec.{eqb, leb}
+use borrow.Author.Tests.{leb-true, lt-leb}
+use lib.Dec.{eqb, leb, ltb}
 use lib.ListN.{length, get_or}
 use Rattle.chars.specs.Lists.{all, first, last}
 use Rattle.chars.specs.Class.{between, is_atom_char, is_in, is_label_char, is_letter}
@@ -22,29 +22,21 @@ use Rattle.chars.proofs.Laws.Parts.{fold_is}
 
 -- ---- the tests in the order in which code makes them
 
+-- the tests in another order
+by_order : (a b c d e : Bool) → (a && b && c && d && e) ≡ (a && b && d && e && c)
+by_order a b true d e = simp and-true
+by_order a b false d e = simp and-false
+
 module _ (s : List ℕ) where
+  pub domain_tests : is_domain_part s ≡ (ltb 0 (length s) && leb (length s) longest_part && not (eqb (get_or s 0 0) 45) && not (eqb (get_or s (length s - 1) 0) 45) && all is_label_char s)
+  unfolding is_domain_part
+  domain_tests =
+      rw (first-at s, last-at s)
+      (by_order (leb 1 (length s)) (leb (length s) longest_part) (all is_label_char s) (not (eqb (get_or s 0 0) 45)) (not (eqb (get_or s (length s - 1) 0) 45)))
+
   pub domain-empty : length s ≡ 0 → is_domain_part s ≡ false
   unfolding is_domain_part
   domain-empty h = rw (lt-leb 1 (length s) (omega arith))
-
-  pub domain_long : longest_part < length s → is_domain_part s ≡ false
-  unfolding is_domain_part
-  domain_long h = rw (lt-leb (length s) longest_part h, and-false (leb 1 (length s)))
-
-  pub domain-first : get_or s 0 0 ≡ 45 → is_domain_part s ≡ false
-  unfolding is_domain_part
-  domain-first h = rw (first-at s, eq-eqb (get_or s 0 0) 45 h, and-false (leb 1 (length s) && leb (length s) longest_part && all is_label_char s))
-
-  pub domain-last : get_or s (length s - 1) 0 ≡ 45 → is_domain_part s ≡ false
-  unfolding is_domain_part
-  domain-last h =
-      rw (last-at s, eq-eqb (get_or s (length s - 1) 0) 45 h) (and-false (leb 1 (length s) && leb (length s) longest_part && all is_label_char s && not (eqb (first s) 45)))
-
-  pub domain-label : (length s ≡ 0 → ⊥) → length s ≤ longest_part → (get_or s 0 0 ≡ 45 → ⊥) → (get_or s (length s - 1) 0 ≡ 45 → ⊥) → is_domain_part s ≡ all is_label_char s
-  unfolding is_domain_part
-  domain-label n h f l =
-      rw (le-leb 1 (length s) (omega arith), le-leb (length s) longest_part h, first-at s, ne_eqb (get_or s 0 0) 45 f, last-at s, ne_eqb (get_or s (length s - 1) 0) 45 l)
-      (simp and-true)
 
 -- ---- letter case
 

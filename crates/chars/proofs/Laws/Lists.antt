@@ -1,5 +1,6 @@
 -- Laws of tests and of `all`, `first` and `last`, for any test and any list.
 -- Assumes nothing.
+use Rattle.std.specs.List.{list_all}
 use mathlib.Core.Path.{◌≡◌, refl, sym, ap, ap₂, ◌∙◌}
 use mathlib.Core.Bool.{Bool, true, false, not, ◌&&◌, ◌||◌, true≢false, and_assoc, and_comm, and-true, or-true}
 use mathlib.Core.List.{List, [], ◌∷◌, ◌++◌, map, reverse, reverse-cons}
@@ -159,6 +160,12 @@ all-reverse p (x ∷ s) =
     ∙ all_append p (reverse s) (x ∷ [])
     ∙ ap₂ (λ (a b : Bool). a && b) (all-reverse p s) (and-true (p x))
     ∙ and_comm (all p s) (p x)
+
+-- std's word for it, by which a chain of iterators answers
+pub all_list : {A : Type 0} (p : A → Bool) (s : List A) → list_all p s ≡ all p s
+unfolding all
+all_list p [] = refl
+all_list p (x ∷ s) = rw (all_list p s)
 
 -- ---- all of what a loop has left
 

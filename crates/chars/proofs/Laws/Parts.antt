@@ -1,6 +1,9 @@
 -- Laws of parts between separators: split and join undo each other, the run up to a separator, and the test of a text by one
 -- pass, `parted_from`, with what it says of the whole text.
 -- Assumes nothing.
+use Rattle.std.specs.List.{position, position_or_len}
+use Rattle.std.specs.Option.{unwrap_or}
+use Rattle.std.specs.Prelude.{◌==◌}
 use mathlib.Core.Path.{◌≡◌, refl, sym, ap, ap₂, ◌∙◌}
 use Prim.Native.Nat.{ℕ, suc, ◌+◌, ◌-◌, ◌≤◌, ◌<◌}
 use native.Mathlib.Nat.{suc_inj, le_of_suc-le-suc}
@@ -132,17 +135,18 @@ module _ (sep : ℕ) where
   run_le (x ∷ s) = by_test (eqb x sep) (λ e. rw e (omega arith)) (λ e. rw e (omega (arith, run_le s)))
 
   -- the part that starts at i ends at i where a separator stands there
-  pub run-here : (s : List ℕ) (i : ℕ) → i < length s → eqb (get_or s i 0) sep ≡ true → run sep (drop i s) ≡ 0
+  -- std's word for it, by which a chain of iterators answers
+  run-prefix : (s : List ℕ) → position_or_len (λ x. x == sep) s ≡ run sep s
   unfolding run
-  run-here s i h e = rw (drop-cons s i 0, e)
+  run-prefix [] = refl
+  run-prefix (x ∷ s) = by_test (eqb x sep) (λ e. rw e) (λ e. rw (e, run-prefix s) (omega arith))
 
-  pub run_more : (s : List ℕ) (i : ℕ) → i < length s → eqb (get_or s i 0) sep ≡ false → run sep (drop i s) ≡ suc (run sep (drop (i + 1) s))
-  unfolding run
-  run_more s i h e = rw (add-one, drop-cons s i 0, e)
-
-  pub run_end : (s : List ℕ) (i : ℕ) → length s ≤ i → run sep (drop i s) ≡ 0
-  unfolding run
-  run_end s i h = rw (drop_of_length-le s)
+  pub run-position : (s : List ℕ) → unwrap_or (position (λ x. x == sep) s) (length s) ≡ run sep s
+  run-position s =
+      rw (run-prefix s)
+      (by_test (ltb (run sep s) (length s))
+      (λ e. rw e)
+      (λ e. rw e (omega (arith, run_le s, ltb-false (run sep s) (length s) e))))
 
   -- a text is one part where the run goes to its end
   pub split-last : (s : List ℕ) → run sep s ≡ length s → split sep s ≡ s ∷ []

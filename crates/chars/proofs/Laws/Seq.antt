@@ -3,7 +3,7 @@
 use mathlib.Core.Path.{◌≡◌, refl, sym, ap, ◌∙◌}
 use mathlib.Core.Bool.{true, false}
 use mathlib.Core.List.{List, [], ◌∷◌, ◌++◌, map, reverse, reverse_aux, reverse-cons}
-use Prim.Native.Nat.{ℕ, zero, suc, ◌+◌, ◌-◌, ◌≤◌, ◌<◌, min}
+use Prim.Native.Nat.{ℕ, zero, suc, ◌+◌, ◌-◌, ◌≤◌, ◌<◌}
 use native.Mathlib.Nat.{le_of_suc-le-suc, not-suc-le-zero, zero-lt-suc}
 use native.Mathlib.Numerals.{add-one}
 use native.Mathlib.Omega.{arith}
@@ -122,10 +122,6 @@ byte_inside s i h =
     by_test (ltb i (length s))
     (λ e. ltb-true i (length s) e)
     (λ e. absurd (omega (arith, get_or-eq_default s 0 (ltb-false i (length s) e))))
-
--- how much of its room a text takes
-pub length-view : {A : Type 0} (n : ℕ) (b : List A) (room : ℕ) → length b ≡ room → length (take n b) ≡ min n room
-length-view n b room e = length-take n b ∙ ap (min n) e
 
 -- what stands at a place, and the text behind it
 pub front-there : (s : List ℕ) (i : ℕ) → i < length s → drop i s ≡ get_or s i 0 ∷ drop (i + 1) s

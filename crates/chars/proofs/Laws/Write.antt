@@ -1,14 +1,20 @@
 -- Laws of text written into a buffer: two writes in a row are one, a write keeps the length, and what the buffer then holds.
 -- Assumes nothing.
+use Rattle.std.proofs.Common.{Some, None}
+use Rattle.std.proofs.lemmas.Option.{none-some, same_Some}
 use mathlib.Core.Path.{◌≡◌, refl, sym, ap, subst, ◌∙◌}
 use Prim.Native.Nat.{ℕ, zero, suc, ◌+◌, ◌-◌, ◌≤◌, ◌<◌}
 use native.Mathlib.Nat.{add-zero, add-suc, suc-add, zero-add}
 use native.Mathlib.Numerals.{add-one}
 use native.Mathlib.Omega.{arith}
 use mathlib.Core.List.{List, [], ◌∷◌, ◌++◌, append_assoc}
+use borrow.Author.Tests.{le-ltb, lt-ltb, ltb-false, ltb-true}
+use borrow.Rule.Slice.PartMut.{put_mid}
+use lib.Dec.{ltb}
 use lib.ListN.{length, take, drop, set, get_or, length-append, length-drop, length-take, take-append-drop}
-use lib.Seq.{sets, sets-eq, set_comm, set_out, set-set, drop-append-le, drop-drop, take-add, length-sets, take-append_seam, take_at, length-take-le, drop-append_seam, drop-cons, get_or-take}
-use Rattle.chars.specs.Write.{Wrote, front}
+use lib.Seq.{sets, sets-eq, set_comm, set_out, set-set, drop-append-le, drop-drop, take-add, length-sets, take-append_seam, take_at, length-take-le, drop-append_seam, drop-cons}
+use Rattle.chars.specs.Write.{Wrote, front, placed_buffer, placed_size}
+use Rattle.chars.proofs.Laws.Lists.{by_test}
 
 -- two runs of stores, one after the other
 pub sets-append : (l : List ℕ) (i : ℕ) (s t : List ℕ) → sets (sets l i s) (i + length s) t ≡ sets l i (s ++ t)
@@ -37,12 +43,12 @@ sets-front [] s = sets_out [] 0 s (omega arith)
 sets-front (x ∷ l) [] = refl
 sets-front (x ∷ l) (y ∷ s) = sets-under y l 0 s ∙ ap (λ t. y ∷ t) (sets-front l s)
 
--- a turn of a loop that stores the first n of b
-pub sets_more : (l : List ℕ) (at n : ℕ) (b : List ℕ) (i : ℕ) → i < n → n ≤ length b
-    → sets l (at + i) (drop i (take n b)) ≡ sets (set l (at + i) (get_or b i 0)) (at + (i + 1)) (drop (i + 1) (take n b))
-sets_more l at n b i h k =
-    sets_step l at (take n b) i (rw length-take (omega arith))
-    ∙ ap (λ x. sets (set l (at + i) x) (at + (i + 1)) (drop (i + 1) (take n b))) (get_or-take n b i 0 h)
+-- a text copied over a part of a buffer that is as long is a write of it
+pub wrote-part : (o : List ℕ) (i k : ℕ) (s t : List ℕ) → t ≡ s → k ≡ length s → i + length s ≤ length o → Wrote o i s (i + length s) (put_mid i k o t)
+wrote-part o i k s t e f h = record {
+  moved = refl;
+  holds = rw (e, f, drop-drop (length s) i o) (sym (append_assoc (take i o) s (drop (i + length s) o)) ∙ sym (sets-eq s o i h));
+}
 
 pub wrote_nothing : {o : List ℕ} {i : ℕ} → Wrote o i [] i o
 wrote_nothing {o} {i} = record { moved = sym (add-zero i); holds = refl }
@@ -149,3 +155,28 @@ pub wrote_taken : {o n t : List ℕ} {j : ℕ} → Wrote o 0 t j n → length t 
 wrote_taken {o} {n} {t} {j} w h =
     let e : j ≡ length t = omega (arith, w.moved) in
     ap (λ (k : ℕ). take k n) e ∙ ap (take (length t)) (wrote-front w h) ∙ take-front t o
+
+-- ---- a text for the front of a buffer
+
+pub placed_fits : (s o : List ℕ) → length s ≤ length o → (placed_size s o ≡ Some (length s)) × (placed_buffer s o ≡ front s o)
+unfolding placed_size placed_buffer
+placed_fits s o h = let e = le-ltb (length o) (length s) h in (rw e, rw e)
+
+pub placed_short : (s o : List ℕ) → length o < length s → (placed_size s o ≡ None) × (placed_buffer s o ≡ o)
+unfolding placed_size placed_buffer
+placed_short s o h = let e = lt-ltb (length o) (length s) h in (rw e, rw e)
+
+-- what the answer of a call says of the text and the buffer
+pub placed_some : (s o n : List ℕ) (k : ℕ) → Some k ≡ placed_size s o → n ≡ placed_buffer s o → (k ≡ length s) × (length s ≤ length o) × (n ≡ front s o)
+placed_some s o n k h e =
+    by_test (ltb (length o) (length s))
+    (λ t. absurd (none-some k (sym (h ∙ (placed_short s o (ltb-true (length o) (length s) t)).0))))
+    (λ t. let l = ltb-false (length o) (length s) t in
+    (same_Some k (length s) (h ∙ (placed_fits s o l).0), l, e ∙ (placed_fits s o l).1))
+
+pub placed_none : (s o n : List ℕ) → None ≡ placed_size s o → n ≡ placed_buffer s o → (length o < length s) × (n ≡ o)
+placed_none s o n h e =
+    by_test (ltb (length o) (length s))
+    (λ t. let l = ltb-true (length o) (length s) t in
+    (l, e ∙ (placed_short s o l).1))
+    (λ t. absurd (none-some (length s) (h ∙ (placed_fits s o (ltb-false (length o) (length s) t)).0)))

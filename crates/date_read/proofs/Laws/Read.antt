@@ -1,33 +1,68 @@
 -- What reading a date comes to, step by step.
 -- Assumes nothing.
 use mathlib.Core.Path.{◌≡◌, refl, sym, ◌∙◌, ap}
-use mathlib.Core.Bool.{Bool, true, false, ◌&&◌, ◌||◌, cond}
+use mathlib.Core.Bool.{Bool, true, false, ◌&&◌, ◌||◌, cond, and-false}
 use mathlib.Core.List.{List}
-use mathlib.Core.Option.{Option, none}
 use Prim.Native.Nat.{ℕ, zero, suc, ◌+◌, ◌-◌, ◌*◌, ◌≤◌, ◌<◌}
-use native.Mathlib.Nat.{le_of_lt, le_refl}
 use native.Mathlib.Omega.{arith}
 use lib.Dec.{eqb, leb}
 use lib.IntN.{ℤ, pos, negsuc, neg_ℤ, nat_abs, ◌-ℤ◌, +ℤ_idl}
-use lib.ListN.{length, get_or, take, drop, length-drop, drop_of_length-le}
-use lib.Seq.{take_all, take-nil}
+use lib.ListN.{length, get_or, take, drop}
 use mir.Syntax.{w32}
 use mir.Val.{SFits, of_z, to_z}
 use mir.ValLaws.{to_z-of_z, to_z_pos}
 use borrow.Author.Tests.{eq-eqb, le-leb, leb-true, lt-leb, ne_eqb}
 use Rattle.chars.specs.Class.{between, is_digit}
 use Rattle.chars.proofs.Laws.Lists.{and_left, and_right, by_test, or_left, or_right, true_not_false}
+use Rattle.std.specs.Prelude.{Option, None, Some}
+use Rattle.std.specs.List.{list_any}
+use Rattle.date_read.proofs.Laws.Date.{no_day, no_second, no_zone}
+use Rattle.date_read.proofs.Laws.Names.{named, unnamed}
+use Rattle.chars.specs.Case.{same_text}
 use Rattle.date_read.specs.Date.{most_offset}
-use Rattle.date_read.specs.Read.{date_names, kept, month_names, no_offset, number_in, offset_of, one_digit, read_body, read_rest, read_utc, rest_date, rest_end, rest_with, signed, spaced_at, two_digits, utc_date, utc_end, utc_names, utc_with, zone_of}
+use Rattle.date_read.specs.Read.{date_names, kept, month_names, no_number, no_offset, number_in, offset_of, one_digit, read_body, read_rest, read_utc, rest_date, rest_end, rest_with, signed, spaced_at, two_digits, utc_date, utc_end, utc_names, utc_with, zone_of}
 use Rattle.date_read.specs.declared.date.DateTime.{DateTime}
-use Rattle.date_read.specs.declared.date.Second.{Second}
-use Rattle.date_read.specs.declared.date.Second.TheVariants.{At, Absent}
 
 -- ---- digits
 
 pub digit_low : (b : ℕ) → is_digit b ≡ true → 48 ≤ b
 unfolding is_digit between
 digit_low b e = leb-true 48 b (and_left (leb 48 b) (leb b 57) e)
+
+pub digit_high : (b : ℕ) → is_digit b ≡ true → b ≤ 57
+unfolding is_digit between
+digit_high b e = leb-true b 57 (and_right (leb 48 b) (leb b 57) e)
+
+module _ (s : List ℕ) (k : ℕ) where
+  -- no digit stands there
+  pub digit-none : no_number ≡ one_digit s k → is_digit (get_or s k 0) ≡ false
+  unfolding one_digit
+  digit-none e =
+      let x = get_or s k 0 in
+      by_test (is_digit x) (λ t. let n : 100 ≡ x - 48 = rw t at e in absurd (omega (arith, digit_high x t))) (λ f. f)
+
+  -- a digit does
+  digit-some : (n : ℕ) → n ≡ one_digit s k → n ≤ 9 → is_digit (get_or s k 0) ≡ true
+  unfolding one_digit
+  digit-some n e h = by_test (is_digit (get_or s k 0)) (λ t. t) (λ f. let q : n ≡ 100 = rw f at e in absurd (omega arith))
+
+  digit-value : (n : ℕ) → n ≡ one_digit s k → n ≤ 9 → n ≡ get_or s k 0 - 48
+  unfolding one_digit
+  digit-value n e h = rw (digit-some n e h) at e
+
+module _ (s : List ℕ) (k : ℕ) where
+  pub no_tens : no_number ≡ one_digit s k → no_number ≡ two_digits s k
+  unfolding two_digits
+  no_tens e = rw (digit-none s k e)
+
+  pub no_ones : no_number ≡ one_digit s (k + 1) → no_number ≡ two_digits s k
+  unfolding two_digits
+  no_ones e = rw (digit-none s (k + 1) e, and-false)
+
+  pub two_told : (a b : ℕ) → a ≡ one_digit s k → a ≤ 9 → b ≡ one_digit s (k + 1) → b ≤ 9 → a * 10 + b ≡ two_digits s k
+  unfolding two_digits
+  two_told a b e h f g =
+      rw (digit-some s k a e h, digit-some s (k + 1) b f g, ← digit-value s k a e h, ← digit-value s (k + 1) b f g)
 
 -- ---- offsets fit their type
 
@@ -79,9 +114,6 @@ offset_fits s =
     (leb-true (two_digits s 3) 59 (and_right (a && h) m e))))
     (fits no_offset (omega arith))
 
-pub offset_back : (s : List ℕ) → to_z w32 (of_z w32 (offset_of s)) ≡ offset_of s
-offset_back s = to_z-of_z w32 (offset_of s) (offset_fits s)
-
 pub zone_fits : (names : List (List ℕ)) (s : List ℕ) → SFits w32 (zone_of names s)
 unfolding zone_of
 zone_fits names s =
@@ -89,16 +121,6 @@ zone_fits names s =
 
 pub zone_back : (names : List (List ℕ)) (s : List ℕ) → to_z w32 (of_z w32 (zone_of names s)) ≡ zone_of names s
 zone_back names s = to_z-of_z w32 (zone_of names s) (zone_fits names s)
-
--- ---- parts
-
-pub none-behind : (s : List ℕ) (k : ℕ) → length s < k → take (length s - length s) (drop (length s) s) ≡ drop k s
-none-behind s k h =
-    ap (λ (t : List ℕ). take (length s - length s) t) (drop_of_length-le s (le_refl (length s)))
-    ∙ take-nil (length s - length s) ∙ sym (drop_of_length-le s (le_of_lt h))
-
-pub all-behind : (s : List ℕ) (k : ℕ) → take (length s - k) (drop k s) ≡ drop k s
-all-behind s k = take_all (length s - k) (drop k s) (omega (arith, length-drop k s))
 
 -- ---- where the seconds end
 
@@ -108,22 +130,28 @@ end-most r = by_test (eqb (get_or r 13 0) 58) (λ e. rw e (omega arith)) (λ e. 
 
 -- ---- the zone, by its parts
 
+module _ (s : List ℕ) where
+  pub not_five : (length s ≡ 5 → ⊥) → no_offset ≡ offset_of s
+  unfolding offset_of
+  not_five h = rw (ne_eqb (length s) 5 h)
+
+  pub not_signed : (get_or s 0 0 ≡ 43 → ⊥) → (get_or s 0 0 ≡ 45 → ⊥) → no_offset ≡ offset_of s
+  unfolding offset_of
+  not_signed f g = rw (ne_eqb (get_or s 0 0) 43 f, ne_eqb (get_or s 0 0) 45 g, and-false)
+
+  pub late_hours : 23 < two_digits s 1 → no_offset ≡ offset_of s
+  unfolding offset_of
+  late_hours h = rw (lt-leb (two_digits s 1) 23 h, and-false)
+
+  pub late_minutes : 59 < two_digits s 3 → no_offset ≡ offset_of s
+  unfolding offset_of
+  late_minutes h = rw (lt-leb (two_digits s 3) 59 h, and-false)
+
 pub plus_sign : (x : ℕ) → x ≡ 43 → (eqb x 43 || eqb x 45) ≡ true
 plus_sign x e = or_left (eqb x 43) (eqb x 45) (eq-eqb x 43 e)
 
 pub minus_sign : (x : ℕ) → x ≡ 45 → (eqb x 43 || eqb x 45) ≡ true
 minus_sign x e = or_right (eqb x 43) (eqb x 45) (eq-eqb x 45 e)
-
-pub late_hours :
-    (s : List ℕ) (h : ℕ) → length s ≡ 5 → (eqb (get_or s 0 0) 43 || eqb (get_or s 0 0) 45) ≡ true → h ≡ two_digits s 1 → 23 < h → no_offset ≡ offset_of s
-unfolding offset_of
-late_hours s h l g eh p = rw (← eh, eq-eqb (length s) 5 l, g, lt-leb h 23 p)
-
-pub late_minutes :
-    (s : List ℕ) (h m : ℕ) → length s ≡ 5 → (eqb (get_or s 0 0) 43 || eqb (get_or s 0 0) 45) ≡ true → h ≡ two_digits s 1 → m ≡ two_digits s 3 → h ≤ 23
-    → 59 < m → no_offset ≡ offset_of s
-unfolding offset_of
-late_minutes s h m l g eh em p q = rw (← eh, ← em, eq-eqb (length s) 5 l, g, le-leb h 23 p, lt-leb m 59 q)
 
 pub good_offset :
     (s : List ℕ) (h m : ℕ) (z : ℤ) → length s ≡ 5 → (eqb (get_or s 0 0) 43 || eqb (get_or s 0 0) 45) ≡ true
@@ -134,13 +162,14 @@ good_offset s h m z l g eh em p q e =
     rw (← eh, ← em, eq-eqb (length s) 5 l, g, le-leb h 23 p, le-leb m 59 q)
     (ap (λ (x : ℤ). to_z w32 (of_z w32 x)) e ∙ signed_back (eqb (get_or s 0 0) 45) (h * 60 + m) (minutes_most h m p q))
 
-pub zone_named : (names : List (List ℕ)) (s : List ℕ) (k : ℕ) → suc k ≡ number_in 1 names s → pos 0 ≡ zone_of names s
-unfolding zone_of
-zone_named names s k e = rw (← e, ne_eqb (suc k) 0 (λ q. omega arith))
+module _ (names : List (List ℕ)) (s : List ℕ) where
+  pub zone_named : list_any (λ n. same_text n s) names ≡ true → pos 0 ≡ zone_of names s
+  unfolding zone_of
+  zone_named e = rw (named names 0 s e)
 
-pub zone_unnamed : (names : List (List ℕ)) (s : List ℕ) (z : ℤ) → 0 ≡ number_in 1 names s → z ≡ offset_of s → to_z w32 (of_z w32 z) ≡ zone_of names s
-unfolding zone_of
-zone_unnamed names s z e q = rw (← e) (ap (λ (x : ℤ). to_z w32 (of_z w32 x)) q ∙ offset_back s)
+  pub zone_unnamed : list_any (λ n. same_text n s) names ≡ false → offset_of s ≡ zone_of names s
+  unfolding zone_of
+  zone_unnamed e = rw (unnamed names 0 s e)
 
 zone_kept : (names : List (List ℕ)) (t : List ℕ) (z : ℤ) → z ≡ zone_of names t → to_z w32 (of_z w32 z) ≡ z
 zone_kept names t z e = ap (λ (x : ℤ). to_z w32 (of_z w32 x)) e ∙ zone_back names t ∙ sym e
@@ -148,35 +177,70 @@ zone_kept names t z e = ap (λ (x : ℤ). to_z w32 (of_z w32 x)) e ∙ zone_back
 -- ---- the whole, by its parts
 
 pub utc_with_lem :
-    (s : List ℕ) (year month day hour minute : ℕ) (second : Second) (z x : ℤ) → year ≡ two_digits s 0 → month ≡ two_digits s 2 → day ≡ two_digits s 4
+    (s : List ℕ) (year month day hour minute : ℕ) (second : Option ℕ) (z x : ℤ) → year ≡ two_digits s 0 → month ≡ two_digits s 2 → day ≡ two_digits s 4
     → hour ≡ two_digits s 6 → minute ≡ two_digits s 8 → x ≡ z
     → ◌≡◌ {A = DateTime} (record { year = year; month = month; day = day; hour = hour; minute = minute; second = second; offset = x }) (utc_with s second z)
 unfolding utc_with
 utc_with_lem s year month day hour minute second z x a b d e f g = rw (← a, ← b, ← d, ← e, ← f, ← g)
 
-pub utc_read :
-    (s t : List ℕ) (end : ℕ) (second : Second) (z : ℤ) → end ≡ utc_end s → second ≡ cond (eqb end 12) (At (two_digits s 10)) Absent → t ≡ drop end s
-    → z ≡ zone_of utc_names t → kept (utc_with s second (to_z w32 (of_z w32 z))) ≡ read_utc s
-unfolding read_utc utc_date
-utc_read s t end second z a b d e = rw (← a, ← d, ← b, ← e, zone_kept utc_names t z e)
+-- a second that is told, and none
+pub second_told : (o : Option ℕ) (x y end k : ℕ) → end ≡ k → x ≡ y → o ≡ Some x → o ≡ cond (eqb end k) (Some y) None
+second_told o x y end k e f h = rw (eq-eqb end k e) (h ∙ ap (λ (n : ℕ). Some n) f)
+
+pub second_absent : (o : Option ℕ) (y end k : ℕ) → (end ≡ k → ⊥) → o ≡ None → o ≡ cond (eqb end k) (Some y) None
+second_absent o y end k e h = rw (ne_eqb end k e) h
+
+module _ (s : List ℕ) (end : ℕ) (a : end ≡ utc_end s) where
+  -- no second where one is told, and no zone
+  pub utc_secondless : end ≡ 12 → no_number ≡ two_digits s 10 → None ≡ read_utc s
+  unfolding read_utc utc_date utc_with
+  utc_secondless b e = no_second (utc_date s) (rw (← a, eq-eqb end 12 b, ← e))
+
+  pub utc_zoneless : no_offset ≡ zone_of utc_names (drop end s) → None ≡ read_utc s
+  unfolding read_utc utc_date utc_with
+  utc_zoneless e = no_zone (utc_date s) (rw (← a) e)
+
+  pub utc_read :
+      (second : Option ℕ) (z : ℤ) → second ≡ cond (eqb end 12) (Some (two_digits s 10)) None
+      → z ≡ zone_of utc_names (drop end s) → kept (utc_with s second (to_z w32 (of_z w32 z))) ≡ read_utc s
+  unfolding read_utc utc_date
+  utc_read second z b e = rw (← a, ← b, ← e, zone_kept utc_names (drop end s) z e)
 
 pub rest_with_lem :
-    (r t : List ℕ) (year month day hour minute : ℕ) (second : Second) (z x : ℤ) → t ≡ take 3 (drop 1 r) → month ≡ number_in 1 month_names t → year ≡ two_digits r 5
+    (r t : List ℕ) (year month day hour minute : ℕ) (second : Option ℕ) (z x : ℤ) → t ≡ take 3 (drop 1 r) → month ≡ number_in 1 month_names t → year ≡ two_digits r 5
     → hour ≡ two_digits r 8 → minute ≡ two_digits r 11 → x ≡ z
     → ◌≡◌ {A = DateTime} (record { year = year; month = month; day = day; hour = hour; minute = minute; second = second; offset = x }) (rest_with r day second z)
 unfolding rest_with
 rest_with_lem r t year month day hour minute second z x a b d e f g = rw (← a, ← b, ← d, ← e, ← f, ← g)
 
-pub rest_unspaced : (r : List ℕ) (day end : ℕ) (b : Bool) → end ≡ rest_end r → b ≡ spaced_at r end → b ≡ false → none ≡ read_rest day r
+pub rest_unspaced : (r : List ℕ) (day end : ℕ) → end ≡ rest_end r → spaced_at r end ≡ false → None ≡ read_rest day r
 unfolding read_rest
-rest_unspaced r day end b a d e = rw (← a, ← d, e)
+rest_unspaced r day end a d = rw (← a, d)
 
-pub rest_read :
-    (r t : List ℕ) (day end : ℕ) (b : Bool) (second : Second) (z : ℤ) → end ≡ rest_end r → b ≡ spaced_at r end → b ≡ true
-    → second ≡ cond (eqb end 16) (At (two_digits r 14)) Absent → t ≡ drop (end + 1) r → z ≡ zone_of date_names t
-    → kept (rest_with r day second (to_z w32 (of_z w32 z))) ≡ read_rest day r
-unfolding read_rest rest_date
-rest_read r t day end b second z a d e f g h = rw (← a, ← d, e, ← f, ← g, ← h, zone_kept date_names t z h)
+rest_lost : (r : List ℕ) (day : ℕ) → None ≡ kept (rest_date day r) → None ≡ read_rest day r
+unfolding read_rest
+rest_lost r day h = by_test (spaced_at r (rest_end r)) (λ e. rw e h) (λ e. rw e)
+
+-- a rest with no day
+pub rest_dayless : (r : List ℕ) → None ≡ read_rest no_number r
+unfolding rest_date rest_with
+rest_dayless r = rest_lost r no_number (no_day (rest_date no_number r) refl)
+
+module _ (r : List ℕ) (day end : ℕ) (a : end ≡ rest_end r) where
+  pub rest_secondless : end ≡ 16 → no_number ≡ two_digits r 14 → None ≡ read_rest day r
+  unfolding rest_date rest_with
+  rest_secondless b e = rest_lost r day (no_second (rest_date day r) (rw (← a, eq-eqb end 16 b, ← e)))
+
+  pub rest_zoneless : no_offset ≡ zone_of date_names (drop (end + 1) r) → None ≡ read_rest day r
+  unfolding rest_date rest_with
+  rest_zoneless e = rest_lost r day (no_zone (rest_date day r) (rw (← a) e))
+
+  pub rest_read :
+      (second : Option ℕ) (z : ℤ) → spaced_at r end ≡ true
+      → second ≡ cond (eqb end 16) (Some (two_digits r 14)) None → z ≡ zone_of date_names (drop (end + 1) r)
+      → kept (rest_with r day second (to_z w32 (of_z w32 z))) ≡ read_rest day r
+  unfolding read_rest rest_date
+  rest_read second z e f h = rw (← a, e, ← f, ← h, zone_kept date_names (drop (end + 1) r) z h)
 
 chosen : (t : Bool) (x y z : Option DateTime) → t ≡ true → z ≡ x → z ≡ cond t x y
 chosen true x y z e h = h

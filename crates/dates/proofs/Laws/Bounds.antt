@@ -1,15 +1,15 @@
 -- What a date's numbers are within.
 -- Assumes nothing.
 use mathlib.Core.Path.{◌≡◌}
-use mathlib.Core.Bool.{true, ◌&&◌}
-use Prim.Native.Nat.{ℕ, ◌%◌, ◌≤◌, zero-le}
+use mathlib.Core.Bool.{true}
+use Prim.Native.Nat.{ℕ, ◌≤◌}
 use native.Mathlib.Omega.{arith}
 use borrow.Author.Tests.{eqb-true, leb-true, ltb-false, ltb-true}
 use lib.Dec.{eqb, leb, ltb}
 use lib.IntN.{nat_abs}
 use lib.ListN.{get_or, get_or-eq_default}
-use Rattle.chars.proofs.Laws.Class.{on_range}
 use Rattle.chars.proofs.Laws.Lists.{and-three, by_test}
+use Rattle.date_read.proofs.Laws.Date.{days_most}
 use Rattle.date_read.specs.Date.{days_in, is_date, is_day, is_second, is_time, last_month, month_days, most_offset}
 use Rattle.date_read.specs.declared.date.DateTime.{DateTime}
 
@@ -27,19 +27,6 @@ months y m h =
     by_test (ltb 0 m)
     (λ f. (ltb-true 0 m f, ltb-false last_month m g))
     (λ f. let z : m ≡ 0 = omega (arith, ltb-false 0 m f) in let w : 1 ≤ 0 = rw z at k in absurd (omega arith))))
-
-month_most : (m : ℕ) → get_or month_days m 0 ≤ 31
-month_most m =
-    by_test (ltb m 13)
-    (λ e. leb-true (get_or month_days m 0) 31 (on_range (λ k. leb (get_or month_days k 0) 31) (λ _. true) 0 13 tt m zero-le (omega (arith, ltb-true m 13 e))))
-    (λ e. let z : get_or month_days m 0 ≡ 0 = get_or-eq_default month_days 0 (ltb-false m 13 e) in omega arith)
-
-days_most : (y m : ℕ) → days_in y m ≤ 31
-unfolding days_in
-days_most y m =
-    by_test (eqb m 2 && eqb (y % 4) 0)
-    (λ e. rw e (omega arith))
-    (λ e. rw e (month_most m))
 
 -- A date's numbers, each within its bounds.
 pub record Bounds (d : DateTime) : Type 0 where

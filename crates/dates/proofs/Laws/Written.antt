@@ -8,12 +8,11 @@ use native.Mathlib.Omega.{arith}
 use lib.IntN.{ℤ}
 use lib.ListN.{length, length-append}
 use Rattle.dates.specs.Write.{date_second_text, two, utc_second_text, zone_text}
+use Rattle.std.specs.Prelude.{Option, None, Some}
 use Rattle.date_read.specs.Date.{is_date}
 use Rattle.date_read.specs.declared.date.DateTime.{DateTime}
-use Rattle.date_read.specs.declared.date.Second.{Second}
-use Rattle.date_read.specs.declared.date.Second.TheVariants.{At, Absent}
 use Rattle.dates.proofs.Laws.Bounds.{bounds}
-use Rattle.dates.proofs.Laws.Month.{month_length, name_of}
+use Rattle.date_read.proofs.Laws.Month.{month_length, name_of}
 
 pub two-length : (n : ℕ) → length (two n) ≡ 2
 unfolding two
@@ -23,15 +22,15 @@ pub zone_length : (z : ℤ) → length (zone_text z) ≡ 5
 unfolding zone_text two
 zone_length z = refl
 
-pub utc_second_length : (s : Second) → length (utc_second_text s) ≤ 2
+pub utc_second_length : (s : Option ℕ) → length (utc_second_text s) ≤ 2
 unfolding utc_second_text two
-utc_second_length (At n) = omega arith
-utc_second_length Absent = omega arith
+utc_second_length (Some n) = omega arith
+utc_second_length None = omega arith
 
-pub date_second_length : (s : Second) → length (date_second_text s) ≤ 3
+pub date_second_length : (s : Option ℕ) → length (date_second_text s) ≤ 3
 unfolding date_second_text two
-date_second_length (At n) = omega arith
-date_second_length Absent = omega arith
+date_second_length (Some n) = omega arith
+date_second_length None = omega arith
 
 pub utc_day_length : (y m d : ℕ) → length (two y ++ two m ++ two d) ≡ 6
 unfolding two

@@ -1,5 +1,6 @@
 -- No attribute is ever shortened: each value is entire in what is added, read and written.
 -- Assumes nothing.
+use Rattle.std.proofs.Common.{Result, Ok, Err}
 use mathlib.Core.Path.{◌≡◌, refl, sym, ap, subst}
 use mathlib.Core.Logic.{inl, inr}
 use mathlib.Core.Bool.{Bool, true, false, ◌&&◌}
@@ -25,7 +26,9 @@ use Rattle.ortext_read.specs.Apply as apply
 use Rattle.ortext_read.specs.Apply.{again, read, read_text, refused, unread}
 use Rattle.ortext_name.proofs.Laws.Name.{name_short}
 use Rattle.ortext_write.proofs.Laws.Written.{keys-good, written_back}
-use Rattle.mailaddr.specs.Answers.{from_shape, shaped, shaping, Shaping, no_shape, too_long}
+use Rattle.mailaddr.specs.Answers.{from_shape, shaping}
+use Rattle.mailaddr.specs.declared.shape.AddressFault.{AddressFault}
+use Rattle.mailaddr.specs.declared.shape.AddressFault.TheVariants.{NoShape, TooLong}
 use Rattle.mailaddr.specs.Code.{coded}
 use Rattle.mailaddr.specs.Shape.{Address, longest_address, shape_of}
 use Rattle.table.specs.Formed.{Formed}
@@ -105,11 +108,11 @@ unfolding to_record_by
 under_table x s t h = rw h
 
 -- address to record: 0, or one of its numbers and an empty record
-by_shape : (t : Table) (s : List ℕ) (x : Shaping) → EndsRecord (1 ∷ 2 ∷ 3 ∷ 7 ∷ []) (record_by t s x).number (record_by t s x).record'
+by_shape : (t : Table) (s : List ℕ) (x : Result Address AddressFault) → EndsRecord (1 ∷ 2 ∷ 3 ∷ 7 ∷ []) (record_by t s x).number (record_by t s x).record'
 unfolding record_by refused_record carrying mapped member
-by_shape t s too_long = inr (refl, refl)
-by_shape t s no_shape = inr (refl, refl)
-by_shape t s (shaped a) =
+by_shape t s (Err TooLong) = inr (refl, refl)
+by_shape t s (Err NoShape) = inr (refl, refl)
+by_shape t s (Ok a) =
     by_test (carried_whole t a)
     (λ c. by_test (ltb longest_coded (length (coded s))) (λ e. rw (c, e) (inr (refl, refl))) (λ e. rw (c, e) (inl refl)))
     (λ c. rw c (inl refl))
@@ -128,7 +131,7 @@ pub source_formed : (x : Source) (t : Table) → spelling x ≡ well_formed t �
 source_formed x t h = subst FormedBy h (source_rules x)
 
 module _ (table : Source) (s : List ℕ) (t : Table) (a : Address) (h : spelling table ≡ well_formed t) (l : length s ≤ longest_address) (e : shape_of s ≡ some a) where
-  has_shape : shaping s ≡ shaped a
+  has_shape : shaping s ≡ Ok a
   unfolding from_shape
   has_shape = short-shape s (some a) l e
 

@@ -1,13 +1,18 @@
--- The numbers of a date's answers, for packing.
+-- The numbers of a date's refusals, for packing.
 -- Assumes nothing.
-use Prim.Native.Nat.{◌<◌}
+use mathlib.Core.Path.{◌≡◌}
+use Prim.Native.Nat.{ℕ, ◌<◌}
 use native.Mathlib.Omega.{arith}
+use Rattle.std.specs.Prelude.{Result, Ok, Err, IfErr}
 use Rattle.dates.specs.Answers.{date_number}
-use Rattle.dates.specs.declared.convert.DateAnswer.{DateAnswer}
-use Rattle.dates.specs.declared.convert.DateAnswer.TheVariants as date-answer
+use Rattle.dates.specs.declared.convert.DateFault.{DateFault}
+use Rattle.dates.specs.declared.convert.DateFault.TheVariants as date-fault
 use Rattle.gateway_pack.specs.Packed.{number_limit}
 
-pub date_small : (a : DateAnswer) → date_number a < number_limit
-date_small date-answer.Done = omega arith
-date_small date-answer.NoDate = omega arith
-date_small date-answer.ShortBuffer = omega arith
+small : (e : DateFault) → date_number e < number_limit
+small date-fault.NoDate = omega arith
+small date-fault.ShortBuffer = omega arith
+
+pub date_small : (d : Result ℕ DateFault) → IfErr d (λ e. (n : ℕ) → n ≡ date_number e → n < number_limit)
+date_small (Ok n) = tt
+date_small (Err e) = λ n h. omega (arith, small e)

@@ -1,12 +1,18 @@
 -- `gateway_dates::packed_date_to_822` meets its contract.
 -- Assumes nothing.
-use Rattle.dates.specs.Answers.{told}
+use mathlib.Core.Path.{refl}
+use Rattle.dates.specs.Answers.{date_number, told}
 use Rattle.dates.specs.Convert.{utc_to_date}
-use Rattle.gateway_pack.proofs.Laws.Packed.{exported_text}
+use Rattle.gateway_pack.proofs.Laws.Packed.{exported_result}
+use Rattle.gateway_dates.proofs.Laws.Numbers.{date_small}
 use Rattle.gateway_dates.proofs.packed_date_to_822.Goals as goal
+
+pub pack_result-requires : goal.pack_result-requires
+pack_result-requires c = date_small c.date_to_822.result
 
 pub returns : goal.returns
 returns c =
     let a = c.args in
-    exported_text (utc_to_date a.utc.now a.out.now)
-    (told c.date_to_822.result c.date_to_822.new.out) c.pack_date.result c.date_to_822.ensures c.pack_date.ensures
+    let d = c.date_to_822 in
+    exported_result date_number told (utc_to_date a.utc.now a.out.now) d.result c.pack_result.result d.new.out (λ n. refl) (λ e. refl)
+    d.ensures c.pack_result.ensures

@@ -1,5 +1,6 @@
 -- How great the counts of a result can be, under a table whose bad line has a small number: that number, and the length of a text.
 -- Assumes nothing.
+use Rattle.std.proofs.Common.{Result, Ok, Err}
 use mathlib.Core.Path.{◌≡◌, refl}
 use mathlib.Core.List.{List, [], ◌∷◌}
 use mathlib.Core.Option.{Option, none, some}
@@ -20,7 +21,10 @@ use Rattle.mapping.specs.ToAddress.{address_of, placed_in, to_address, to_addres
 use Rattle.mapping.specs.ToRecord.{record_by, to_record, to_record_by}
 use Rattle.mapping.proofs.Laws.Short.{address-short}
 use Rattle.table_load.specs.Load.{FormedBy}
-use Rattle.mailaddr.specs.Answers.{Shaping, no_shape, shaped, shaping, too_long}
+use Rattle.mailaddr.specs.Answers.{shaping}
+use Rattle.mailaddr.specs.Shape.{Address}
+use Rattle.mailaddr.specs.declared.shape.AddressFault.{AddressFault}
+use Rattle.mailaddr.specs.declared.shape.AddressFault.TheVariants.{NoShape, TooLong}
 use Rattle.mailaddr.specs.Code.{coded}
 use Rattle.gateway_pack.specs.Packed.{most_count}
 
@@ -60,11 +64,11 @@ Counted l = NumberedIn most_count l
 -- ---- of the results
 
 -- of address to record
-by_shape : (t : Table) (s : List ℕ) (x : Shaping) → (record_by t s x).line ≡ 0
+by_shape : (t : Table) (s : List ℕ) (x : Result Address AddressFault) → (record_by t s x).line ≡ 0
 unfolding record_by refused_record carrying mapped
-by_shape t s too_long = refl
-by_shape t s no_shape = refl
-by_shape t s (shaped a) =
+by_shape t s (Err TooLong) = refl
+by_shape t s (Err NoShape) = refl
+by_shape t s (Ok a) =
     by_test (carried_whole t a)
     (λ e. by_test (ltb longest_coded (length (coded s))) (λ g. rw (e, g)) (λ g. rw (e, g)))
     (λ e. rw e)

@@ -1,5 +1,6 @@
 -- What is packed for C, from what the mappings and the check told, under what any table comes to.
 -- Assumes nothing.
+use Rattle.std.proofs.Common.{MatchResult, Result, Ok, Err, eqb}
 use mathlib.Core.Path.{◌≡◌, refl, sym, ap, subst, ◌∙◌}
 use mathlib.Core.Logic.{inl, inr}
 use mathlib.Core.Bool.{true, false}
@@ -25,16 +26,13 @@ use Rattle.ortext_write.proofs.Laws.Write.{text_bound}
 use Rattle.table.specs.Lines.{TableOutcome, malformed, well_formed}
 use Rattle.table.specs.Table.{Table}
 use Rattle.table_load.specs.Load.{FormedBy}
-use Rattle.mapping.specs.Answers.{address_bad_line, address_number, record_bad_line, record_number, told_address, told_record}
+use Rattle.mapping.specs.Answers.{address_bad_line, record_bad_line, record_number, told_address, told_record}
 use Rattle.mapping.specs.Results.{AddressResult, RecordResult, malformed_record, placed, refused_address}
 use Rattle.mapping.specs.ToAddress.{to_address, to_address_by}
 use Rattle.mapping.specs.ToRecord.{to_record_by}
-use Rattle.mapping.specs.declared.answers.AddressAnswer.{AddressAnswer}
-use Rattle.mapping.specs.declared.answers.AddressAnswer.TheVariants as address-answer
-use Rattle.mapping.specs.declared.answers.ToAddress.{ToAddress}
-use Rattle.mapping.specs.declared.answers.RecordAnswer.{RecordAnswer}
-use Rattle.mapping.specs.declared.answers.RecordAnswer.TheVariants as record-answer
-use Rattle.mapping.specs.declared.answers.ToRecord.{ToRecord}
+use Rattle.mapping.specs.declared.answers.AddressRefusal.{AddressRefusal}
+use Rattle.mapping.specs.declared.answers.RecordRefusal.{RecordRefusal}
+use Rattle.mapping.specs.declared.answers.RecordRefusal.TheVariants as record-refusal
 use Rattle.mapping.proofs.Laws.Returned.{done-canonical}
 use Rattle.soundness.specs.Check.{CheckResult, Demand3}
 use Rattle.gateway_pack.specs.Filled.{ShownText}
@@ -44,28 +42,24 @@ use Rattle.gateway_text.proofs.Laws.Texts.{outcome-done, outcome-not}
 use Rattle.gateway_export.specs.Exports.{Exported, ExportedCheck, Packable, PackableCheck, packed, reading_to_address, text_result, text_to_address_by}
 use Rattle.gateway_export.proofs.Laws.Bounds.{Counted, address_bound, placed-line, placed-size, record_line_bound}
 
-pub number_small : (a : AddressAnswer) → address_number a ≤ 7
-unfolding address_number
-number_small address-answer.Done = omega arith
-number_small address-answer.NotCanonical = omega arith
-number_small address-answer.NoAddress = omega arith
-number_small address-answer.ShortBuffer = omega arith
-number_small (address-answer.Malformed l) = omega arith
-
 -- a result as it was told, in one value
-pub exported : (o : AddressResult) (w : ToAddress) (r : ℕ) (new : List ℕ) → told_address w new ≡ o → r ≡ packed (told_address w []) → Exported o r new
+pub exported : (o : AddressResult) (w : Result ℕ AddressRefusal) (r : ℕ) (new : List ℕ) → told_address w new ≡ o → r ≡ packed (told_address w [])
+    → Exported o r new
 unfolding told_address
-exported o w r new e k = record { value = k ∙ ap packed e; buffer = ap (λ (x : AddressResult). x.buffer) e }
+exported o (Ok n) r new e k = record { value = k ∙ ap packed e; buffer = ap (λ (x : AddressResult). x.buffer) e }
+exported o (Err g) r new e k = record { value = k ∙ ap packed e; buffer = ap (λ (x : AddressResult). x.buffer) e }
+
+-- a result of small counts
+abbrev pub SmallCounts : Result ℕ AddressRefusal → Type 0
+SmallCounts w = MatchResult w (λ n. n ≤ most_count) (λ e. address_bad_line e ≤ most_count)
+
+small_counts : (w : Result ℕ AddressRefusal) (new : List ℕ) (o : AddressResult) → told_address w new ≡ o → o.size ≤ most_count → o.line ≤ most_count
+    → SmallCounts w
+unfolding told_address
+small_counts (Ok n) new o e s l = omega (arith, ap (λ (x : AddressResult). x.size) e)
+small_counts (Err g) new o e s l = omega (arith, ap (λ (x : AddressResult). x.line) e)
 
 -- ---- an address to a record's text
-
-pub refused-small : (a : RecordAnswer) → record_number a ≤ 7
-unfolding record_number
-refused-small record-answer.Done = omega arith
-refused-small record-answer.NoShape = omega arith
-refused-small record-answer.TooLong = omega arith
-refused-small record-answer.TooLongCoded = omega arith
-refused-small (record-answer.Malformed l) = omega arith
 
 table-canonical : (l : TableOutcome) (s : List ℕ) → FormedBy l → (to_record_by l s).number ≡ 0 → canonical_record (to_record_by l s).record' ≡ true
 unfolding to_record_by malformed_record
@@ -76,24 +70,26 @@ table-canonical (well_formed t) s f h = done-canonical t f s h
 pub packable : (l : TableOutcome) (s : List ℕ) (o : RecordResult) → Counted l → FormedBy l → o ≡ to_record_by l s → Packable o
 packable l s o h f e = subst Packable (sym e) (record { line = record_line_bound l s h; canonical = table-canonical l s f })
 
-module _ (x : ToRecord) (old : List ℕ) (n : ℕ) (k : n ≡ record_number x.answer) where
-  pub text-done : n ≡ 0 → placed (record_text keys (view x.«record»)) old ≡ text_result (told_record x) old
-  unfolding text_result told_record
-  text-done z = rw (sym k, z)
+-- no refusal has the number of done
+refused-not : (f : RecordRefusal) → eqb (record_number f) 0 ≡ false
+unfolding record_number
+refused-not record-refusal.NoShape = refl
+refused-not record-refusal.TooLong = refl
+refused-not record-refusal.TooLongCoded = refl
+refused-not (record-refusal.Malformed l) = refl
 
-  pub text-not : (n ≡ 0 → ⊥) → (r : ℕ) → r ≡ packed_count n (record_bad_line x.answer) 0 → Exported (text_result (told_record x) old) r old
-  unfolding text_result told_record
-  text-not z r h = record { value = h ∙ rw (sym k, ne_eqb n 0 z); buffer = rw (sym k, ne_eqb n 0 z) }
+pub text-not : (f : RecordRefusal) (old : List ℕ) (r : ℕ) → r ≡ packed_count (record_number f) (record_bad_line f) 0
+    → Exported (text_result (told_record (Err f)) old) r old
+unfolding text_result told_record
+text-not f old r h = record { value = h ∙ rw (refused-not f); buffer = rw (refused-not f) }
 
 -- the text of a canonical record is short
-pub text-counts : (r : Record) (old new : List ℕ) (w : ToAddress) → canonical_record r ≡ true → told_address w new ≡ placed (record_text keys (view r)) old
-    → (w.size ≤ most_count) × (address_bad_line w.answer ≤ most_count)
-unfolding told_address remaining
+pub text-counts : (r : Record) (old new : List ℕ) (w : Result ℕ AddressRefusal) → canonical_record r ≡ true
+    → told_address w new ≡ placed (record_text keys (view r)) old → SmallCounts w
+unfolding remaining
 text-counts r old new w c e =
     let s : List ℕ = record_text keys (view r) in
-    let n : w.size ≡ (placed s old).size = ap (λ (o : AddressResult). o.size) e in
-    let m : address_bad_line w.answer ≡ (placed s old).line = ap (λ (o : AddressResult). o.line) e in
-    (omega (arith, placed-size s old, text_bound (view r) (canonical-view r c) 0), omega (arith, placed-line s old))
+    small_counts w new (placed s old) e (omega (arith, placed-size s old, text_bound (view r) (canonical-view r c) 0)) (omega (arith, placed-line s old))
 
 -- ---- a record text to an address
 
@@ -131,13 +127,11 @@ read_by (well_formed t) s old = read-address t old (read_text keys 0 empty_recor
 pub text_to_address_lem : (l : TableOutcome) (s old : List ℕ) (d : Addition) → told d ≡ record_of_text s → to_address_by l d.«record» old ≡ text_to_address_by l s old
 text_to_address_lem l s old d e = ap (λ (o : Outcome). to_address_by l o.record' old) e ∙ read_by l s old
 
-pub address-counts : (l : TableOutcome) (r : Record) (old new : List ℕ) (w : ToAddress) → Counted l → FormedBy l → told_address w new ≡ to_address_by l r old
-    → (w.size ≤ most_count) × (address_bad_line w.answer ≤ most_count)
-unfolding told_address
+pub address-counts : (l : TableOutcome) (r : Record) (old new : List ℕ) (w : Result ℕ AddressRefusal) → Counted l → FormedBy l
+    → told_address w new ≡ to_address_by l r old → SmallCounts w
 address-counts l r old new w h f e =
-    let n : w.size ≡ (to_address_by l r old).size = ap (λ (o : AddressResult). o.size) e in
-    let m : address_bad_line w.answer ≡ (to_address_by l r old).line = ap (λ (o : AddressResult). o.line) e in
-    (omega (arith, (address_bound old l r h f).0), omega (arith, (address_bound old l r h f).1))
+    let b = address_bound old l r h f in
+    small_counts w new (to_address_by l r old) e b.0 b.1
 
 -- ---- the check
 

@@ -1,10 +1,10 @@
 -- Laws of mailboxes for the entry points: the phrase stands in the line, and what is shown of it.
 -- Assumes nothing.
 use mathlib.Core.Path.{◌≡◌, refl, ap, ◌∙◌}
-use mathlib.Core.List.{List}
+use mathlib.Core.List.{List, []}
 use mathlib.Core.Option.{Option, none, some}
-use Prim.Native.Nat.{ℕ, ◌+◌, ◌-◌, ◌≤◌, ◌<◌}
-use native.Mathlib.Nat.{add-sub_cancel_left}
+use Rattle.std.proofs.Common.{Result, Ok, Err}
+use Prim.Native.Nat.{ℕ, ◌+◌, ◌≤◌, ◌<◌}
 use native.Mathlib.Omega.{arith}
 use borrow.Author.Tests.{ltb-false}
 use denote.Ref.{Bor}
@@ -16,20 +16,28 @@ use Rattle.lexical.specs.Nesting.{nests_too_deep}
 use Rattle.lexical.specs.Tokens.{longest_line}
 use Rattle.mailbox.specs.Answers.{mailbox_number, told_place, told_written}
 use Rattle.mailbox.specs.Mailbox.{Bare, MailboxResult, bare_in, mailbox_by, phrase_place, place_by, place_in, read_mailbox, reading, reading_of, text_by}
-use Rattle.mailbox.specs.declared.entry.MailboxAnswer.{MailboxAnswer}
-use Rattle.mailbox.specs.declared.entry.MailboxAnswer.TheVariants as mailbox-answer
+use Rattle.mailbox.specs.declared.entry.MailboxFault.{MailboxFault}
+use Rattle.mailbox.specs.declared.entry.MailboxFault.TheVariants as mailbox-fault
 use Rattle.mailbox.specs.declared.entry.MailboxWritten.{MailboxWritten}
 use Rattle.mailbox.specs.declared.phrase.PhrasePlace.{PhrasePlace}
 use Rattle.mailbox.proofs.Laws.Bare.{phrase-inside}
-use Rattle.gateway_pack.specs.Packed.{number_limit}
+use Rattle.gateway_pack.specs.Packed.{number_limit, packed_text}
 use Rattle.gateway_mailbox.specs.Shows.{Shows}
 
-pub mailbox-small : (a : MailboxAnswer) → mailbox_number a < number_limit
-mailbox-small mailbox-answer.Done = omega arith
-mailbox-small mailbox-answer.TooLong = omega arith
-mailbox-small mailbox-answer.TooDeep = omega arith
-mailbox-small mailbox-answer.NoMailbox = omega arith
-mailbox-small mailbox-answer.ShortBuffer = omega arith
+pub mailbox-small : (f : MailboxFault) → mailbox_number f < number_limit
+mailbox-small mailbox-fault.TooLong = omega arith
+mailbox-small mailbox-fault.TooDeep = omega arith
+mailbox-small mailbox-fault.NoMailbox = omega arith
+mailbox-small mailbox-fault.ShortBuffer = omega arith
+
+-- what is packed has no buffer
+pub packed-any : (r : Result MailboxWritten MailboxFault) (new : List ℕ) → packed_text (told_written r []).text ≡ packed_text (told_written r new).text
+packed-any (Ok w) new = refl
+packed-any (Err f) new = refl
+
+pub told-buffer : (r : Result MailboxWritten MailboxFault) (new : List ℕ) → (told_written r new).text.buffer ≡ new
+told-buffer (Ok w) new = refl
+told-buffer (Err f) new = refl
 
 -- ---- the phrase stands in the line
 
@@ -62,7 +70,7 @@ result_inside s old =
     (λ e. rw e (omega arith))
     (λ e. rw e (place_inside s).0)
 
-pub place-fits : (s old new : List ℕ) (w : MailboxWritten) → told_written w new ≡ read_mailbox s old → w.phrase.start + w.phrase.size ≤ length s
+pub place-fits : (s old new : List ℕ) (w : MailboxWritten) → told_written (Ok w) new ≡ read_mailbox s old → w.phrase.start + w.phrase.size ≤ length s
 place-fits s old new w e =
     let a : w.phrase.start ≡ (read_mailbox s old).phrase.start = ap (λ (o : MailboxResult). o.phrase.start) e in
     let b : w.phrase.size ≡ (read_mailbox s old).phrase.size = ap (λ (o : MailboxResult). o.phrase.size) e in
@@ -70,15 +78,15 @@ place-fits s old new w e =
 
 -- ---- what is shown
 
-pub shows : (line part : Bor (List ℕ)) (old new : List ℕ) (w : MailboxWritten) (n : ℕ) → told_written w new ≡ read_mailbox line.now old → n ≡ mailbox_number w.answer
-    → part.now ≡ take (w.phrase.start + w.phrase.size - w.phrase.start) (drop w.phrase.start line.now)
-    → part.ref_ptr.0 ≡ line.ref_ptr.0 → part.ref_ptr.1 ≡ w.phrase.start + line.ref_ptr.1
-    → Shows (read_mailbox line.now old) line n w.size new part
+pub shows : (line part : Bor (List ℕ)) (old new : List ℕ) (n k : ℕ) (p : Place)
+    → record { text = record { number = n; size = k; buffer = new }; phrase = p } ≡ read_mailbox line.now old
+    → part.now ≡ take p.size (drop p.start line.now) → part.ref_ptr.0 ≡ line.ref_ptr.0 → part.ref_ptr.1 ≡ p.start + line.ref_ptr.1
+    → Shows (read_mailbox line.now old) line n k new part
 unfolding at
-shows line part old new w n e k p b f = record {
-  text = ap (λ (m : ℕ). record { number = m; size = w.size; buffer = new }) k ∙ ap (λ (o : MailboxResult). o.text) e;
+shows line part old new n k p e q b f = record {
+  text = ap (λ (o : MailboxResult). o.text) e;
   phrase = record {
-    holds = p ∙ ap (λ (m : ℕ). take m (drop w.phrase.start line.now)) (add-sub_cancel_left w.phrase.start w.phrase.size) ∙ ap (λ (o : MailboxResult). take o.phrase.size (drop o.phrase.start line.now)) e;
+    holds = q ∙ ap (λ (o : MailboxResult). take o.phrase.size (drop o.phrase.start line.now)) e;
     within = b;
     stands = f ∙ ap (λ (o : MailboxResult). o.phrase.start + line.ref_ptr.1) e;
   };

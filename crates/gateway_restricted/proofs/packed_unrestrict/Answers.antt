@@ -1,12 +1,18 @@
 -- `gateway_restricted::packed_unrestrict` meets its contract.
 -- Assumes nothing.
-use Rattle.restricted.specs.Answers.{told}
+use mathlib.Core.Path.{refl}
+use Rattle.restricted.specs.Answers.{restricted_number, told}
 use Rattle.restricted.specs.Convert.{unrestrict_text}
-use Rattle.gateway_pack.proofs.Laws.Packed.{exported_text}
+use Rattle.gateway_pack.proofs.Laws.Packed.{exported_result}
+use Rattle.gateway_restricted.proofs.Laws.Numbers.{restricted_small}
 use Rattle.gateway_restricted.proofs.packed_unrestrict.Goals as goal
+
+pub pack_result-requires : goal.pack_result-requires
+pack_result-requires c = restricted_small c.unrestrict.result
 
 pub returns : goal.returns
 returns c =
     let a = c.args in
-    exported_text (unrestrict_text a.text.now a.out.now)
-    (told c.unrestrict.result c.unrestrict.new.out) c.pack_restricted.result c.unrestrict.ensures c.pack_restricted.ensures
+    let d = c.unrestrict in
+    exported_result restricted_number told (unrestrict_text a.text.now a.out.now) d.result c.pack_result.result d.new.out (λ n. refl) (λ e. refl)
+    d.ensures c.pack_result.ensures

@@ -4,6 +4,7 @@ use mathlib.Core.Path.{◌≡◌, refl, ap, ◌∙◌}
 use mathlib.Core.Bool.{Bool, true, false, not, ◌&&◌, ◌||◌}
 use mathlib.Core.List.{List, [], ◌∷◌, ◌++◌, append-nil}
 use mathlib.Core.Option.{some}
+use Rattle.std.proofs.Common.{Some}
 use Prim.Native.Nat.{ℕ}
 use native.Mathlib.Nat.{zero-max}
 use borrow.Author.Tests.{eqb-true, ne_eqb, not-true}
@@ -55,7 +56,7 @@ deepest-atoms w r h = deepest-plain w r (all_weaken (λ x. eqb x 46 || is_atom_c
 
 -- ---- quoted strings
 
-deepest-closing : (t : List ℕ) (n : ℕ) → closing t ≡ some n → deepest 0 true 0 t ≡ deepest 0 false 0 (drop n t)
+deepest-closing : (t : List ℕ) (n : ℕ) → closing t ≡ Some n → deepest 0 true 0 t ≡ deepest 0 false 0 (drop n t)
 unfolding deepest nest_of nest_quoted
 deepest-closing =
     by-closing (λ t n. deepest 0 true 0 t ≡ deepest 0 false 0 (drop n t))

@@ -3,7 +3,7 @@
 use mathlib.Core.Path.{◌≡◌, refl, ap, ◌∙◌}
 use mathlib.Core.Bool.{true, false}
 use mathlib.Core.List.{List, [], ◌∷◌, ◌++◌}
-use mathlib.Core.Option.{some}
+use Rattle.std.proofs.Common.{Some}
 use Prim.Native.Nat.{ℕ, suc, ◌+◌, ◌<◌}
 use native.Mathlib.Nat.{add-zero}
 use native.Mathlib.Omega.{arith}
@@ -107,7 +107,7 @@ quoted_escape y s f = rw (text-fold y (get_or s 0 0) (get_or s 1 0) f, f)
 pub record ReadQuoted (t : List ℕ) (n : ℕ) : Type 0 where
   pub before : ℕ
   pub size : n ≡ suc before
-  pub reads : quoted 0 false t ≡ some (record { size = n; meaning = unescaped (take before t) })
+  pub reads : quoted 0 false t ≡ Some (record { size = n; meaning = unescaped (take before t) })
 
 read_close : (s : List ℕ) → ReadQuoted (34 ∷ s) 1
 unfolding unescaped quoted quoted_step is_fold quoted_by
@@ -131,14 +131,14 @@ read-text x s n e f g k =
       reads = quoted-text x s e f g ∙ rw (k.reads, unescaped-plain x (take k.before s) f);
     }
 
-pub quoted-closing : (t : List ℕ) (n : ℕ) → closing t ≡ some n → ReadQuoted t n
+pub quoted-closing : (t : List ℕ) (n : ℕ) → closing t ≡ Some n → ReadQuoted t n
 quoted-closing = by-closing ReadQuoted read_close read_escape read-text
 
 -- the word that a quoted string of n bytes behind its opening quote is
 abbrev pub quoted_word : ℕ → ℕ → List ℕ → Word
 quoted_word i n t = record { start = i; end = suc (i + n); is_quoted = true; meaning = t }
 
-pub tokens-quoted : (i : ℕ) (t r : List ℕ) (n : ℕ) (u : List ℕ) → quoted 0 false (t ++ r) ≡ some (record { size = n; meaning = u }) → n ≡ length t → 0 < n
+pub tokens-quoted : (i : ℕ) (t r : List ℕ) (n : ℕ) (u : List ℕ) → quoted 0 false (t ++ r) ≡ Some (record { size = n; meaning = u }) → n ≡ length t → 0 < n
     → tokens_from i 0 (34 ∷ t ++ r) ≡ word (quoted_word i n u) ∷ tokens_from (suc (i + n)) 0 r
 unfolding tokens_from is_atom_char between bytes member is_space size_in meaning_in
 tokens-quoted i t r n u h k l =

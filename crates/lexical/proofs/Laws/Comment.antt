@@ -3,7 +3,7 @@
 use mathlib.Core.Path.{◌≡◌, refl, sym, ap, ◌∙◌}
 use mathlib.Core.Bool.{Bool, true, false, cond}
 use mathlib.Core.List.{List, [], ◌∷◌}
-use mathlib.Core.Option.{Option, none, some}
+use Rattle.std.proofs.Common.{Option, None, Some}
 use Prim.Native.Nat.{ℕ, zero, suc, ◌+◌, ◌-◌, ◌≤◌, ◌<◌}
 use native.Mathlib.Omega.{arith}
 use native.Mathlib.Nat.{add-suc, add-zero, suc-add, zero-add}
@@ -15,7 +15,7 @@ use lib.Seq.{drop-cons, drop-drop}
 use Rattle.chars.specs.Lists.{first}
 use Rattle.chars.proofs.Laws.Lists.{by_test, true_not_false}
 use Rattle.mailaddr.specs.Shape.{more}
-use Rattle.chars.proofs.Laws.Options.{none-some}
+use Rattle.std.proofs.lemmas.Option.{none-some}
 use Rattle.mailaddr.proofs.Laws.Closing.{more-more, more-some}
 use Rattle.lexical.specs.Comment.{comment, content, content_by, content_step, is_ctext, pair_step}
 use Rattle.lexical.specs.Space.{is_fold}
@@ -26,24 +26,24 @@ use Rattle.chars.proofs.Laws.Seq.{second, third}
 -- ---- what follows a part that closes
 
 unfoldable then_at : Option ℕ → (ℕ → Option ℕ) → Option ℕ
-then_at none f = none
-then_at (some n) f = f n
+then_at None f = None
+then_at (Some n) f = f n
 
 -- one byte more before it
 then_more : (a : Option ℕ) (f g : ℕ → Option ℕ) → ((n : ℕ) → more 1 (f n) ≡ g (1 + n)) → more 1 (then_at a f) ≡ then_at (more 1 a) g
 unfolding more then_at
-then_more none f g e = refl
-then_more (some n) f g e = e n
+then_more None f g e = refl
+then_more (Some n) f g e = e n
 
 more_zero : (o : Option ℕ) → more 0 o ≡ o
 unfolding more
-more_zero none = refl
-more_zero (some k) = rw (zero-add k)
+more_zero None = refl
+more_zero (Some k) = rw (zero-add k)
 
-more-none : (m : ℕ) (o : Option ℕ) → more m o ≡ none → o ≡ none
+more-none : (m : ℕ) (o : Option ℕ) → more m o ≡ None → o ≡ None
 unfolding more
-more-none m none e = refl
-more-none m (some k) e = none-some (sym e)
+more-none m None e = refl
+more-none m (Some k) e = absurd (none-some _ (sym e))
 
 -- bytes that are passed are dropped
 content_skip : (k l o : ℕ) (s : List ℕ) → content k l o s ≡ more k (content 0 l o (drop k s))
@@ -117,13 +117,13 @@ unfolding content_step pair_step
 opens x y z e = open_test (eqb x 41) (eqb x 40) (eqb x 92) (leb y 127) (is_fold x y z) (is_ctext x) (ap is_open e)
 
 -- it has at least its "("
-comment-some : (l : ℕ) (s : List ℕ) (n : ℕ) → comment l s ≡ some n → 0 < n
+pub comment-some : (l : ℕ) (s : List ℕ) (n : ℕ) → comment l s ≡ Some n → 0 < n
 unfolding comment
-comment-some zero s n e = none-some e
+comment-some zero s n e = absurd (none-some _ e)
 comment-some (suc l) s n e =
     by_test (eqb (first s) 40)
     (λ f. omega (arith, (more-some 1 (content 0 l 0 (drop 1 s)) n (rw f at e)).2))
-    (λ f. none-some (rw f at e))
+    (λ f. absurd (none-some _ (rw f at e)))
 
 -- the content goes on behind it
 content_open : (l x : ℕ) (s : List ℕ) → content_step x (get_or s 0 0) (get_or s 1 0) ≡ Open → content 0 l 0 (x ∷ s) ≡ then_at (comment l (x ∷ s)) (behind l 0 (x ∷ s))
@@ -144,11 +144,11 @@ module _ (s : List ℕ) (i l : ℕ) where
   unfolding content
   content-here h = rw (drop-cons s i 0 h, second s i, third s i)
 
-  pub at_close : i < length s → step_at s i ≡ Close → more i (content 0 l 0 (drop i s)) ≡ some (i + 1)
+  pub at_close : i < length s → step_at s i ≡ Close → more i (content 0 l 0 (drop i s)) ≡ Some (i + 1)
   unfolding content_by more
   at_close h e = rw (content-here h, e)
 
-  pub at_break : i < length s → step_at s i ≡ Break → more i (content 0 l 0 (drop i s)) ≡ none
+  pub at_break : i < length s → step_at s i ≡ Break → more i (content 0 l 0 (drop i s)) ≡ None
   unfolding content_by more
   at_break h e = rw (content-here h, e)
 
@@ -170,7 +170,7 @@ module _ (s : List ℕ) (i l : ℕ) where
   unfolding content_by
   at-fold h e = rw (content-here h, e) two
 
-  pub at-end : length s ≤ i → more i (content 0 l 0 (drop i s)) ≡ none
+  pub at-end : length s ≤ i → more i (content 0 l 0 (drop i s)) ≡ None
   unfolding content more
   at-end h = rw (drop_of_length-le s h)
 
@@ -179,16 +179,16 @@ module _ (s : List ℕ) (i l : ℕ) where
   open_here h e =
       rw (drop-cons s i 0 h) (content_open l (get_or s i 0) (drop (suc i) s) (rw (second s i, third s i) e))
 
-  pub at_open_never : i < length s → step_at s i ≡ Open → none ≡ more i (comment l (drop i s)) → more i (content 0 l 0 (drop i s)) ≡ none
+  pub at_open_never : i < length s → step_at s i ≡ Open → None ≡ more i (comment l (drop i s)) → more i (content 0 l 0 (drop i s)) ≡ None
   unfolding more then_at
   at_open_never h e q = rw (open_here h e, more-none i (comment l (drop i s)) (sym q))
 
-  open_behind : i < length s → step_at s i ≡ Open → (k : ℕ) → comment l (drop i s) ≡ some k
+  open_behind : i < length s → step_at s i ≡ Open → (k : ℕ) → comment l (drop i s) ≡ Some k
       → more i (content 0 l 0 (drop i s)) ≡ more (i + k) (content 0 l 0 (drop (i + k) s))
   unfolding then_at
   open_behind h e k q = rw (open_here h e, q, drop-drop k i s, more-more i k (content 0 l 0 (drop (i + k) s)))
 
-  pub at_open : i < length s → step_at s i ≡ Open → (n : ℕ) → some n ≡ more i (comment l (drop i s))
+  pub at_open : i < length s → step_at s i ≡ Open → (n : ℕ) → Some n ≡ more i (comment l (drop i s))
       → (i < n) × (more i (content 0 l 0 (drop i s)) ≡ more n (content 0 l 0 (drop n s)))
   at_open h e n q =
       let c = more-some i (comment l (drop i s)) n (sym q) in (
@@ -198,7 +198,7 @@ module _ (s : List ℕ) (i l : ℕ) where
 
 -- a comment at a place: there is none without a level or a "(", and else its content goes on behind that
 module _ (s : List ℕ) (i : ℕ) (h : i < length s) where
-  pub comment_other : (l : ℕ) → (get_or s i 0 ≡ 40 → ⊥) → more i (comment l (drop i s)) ≡ none
+  pub comment_other : (l : ℕ) → (get_or s i 0 ≡ 40 → ⊥) → more i (comment l (drop i s)) ≡ None
   unfolding comment more first
   comment_other zero f = refl
   comment_other (suc l) f = rw (drop-cons s i 0 h, ne_eqb (get_or s i 0) 40 f)

@@ -3,7 +3,7 @@
 use mathlib.Core.Path.{◌≡◌, refl, sym, ap, ◌∙◌}
 use mathlib.Core.Bool.{Bool, true, false, ◌||◌, cond}
 use mathlib.Core.List.{List, [], ◌∷◌, ◌++◌}
-use mathlib.Core.Option.{Option, none, some}
+use Rattle.std.proofs.Common.{Option, None, Some}
 use Prim.Native.Nat.{ℕ, zero, suc, ◌+◌, ◌≤◌, ◌<◌}
 use native.Mathlib.Numerals.{add-one}
 use native.Mathlib.Omega.{arith}
@@ -14,7 +14,7 @@ use lib.Seq.{drop-cons}
 use Rattle.chars.proofs.Laws.Lists.{and-three, by_test, or_cases, true_not_false}
 use Rattle.chars.proofs.Laws.Seq.{beyond, byte_inside, second, third}
 use Rattle.mailaddr.specs.Shape.{is_text}
-use Rattle.chars.proofs.Laws.Options.{none-some, some_same}
+use Rattle.std.proofs.lemmas.Option.{none-some, same_Some}
 use Rattle.lexical.specs.Space.{is_fold, is_space}
 use Rattle.lexical.specs.Quoted.{Quoted, keeping, meaning_in, passing, quoted, quoted_by, quoted_step, size_in, text_step}
 use Rattle.lexical.specs.Answers.{quoted_end}
@@ -25,18 +25,18 @@ use Rattle.lexical.specs.declared.quoted.QuotedStep.TheVariants.{Break, Close, E
 
 -- one that closes lies within n bytes, and its text is shorter than it, by its closing quote at least
 abbrev Fits : ℕ → Option Quoted → Type 0
-Fits n none = Unit {0}
-Fits n (some q) = (q.size ≤ n) × (length q.meaning < q.size)
+Fits n None = Unit {0}
+Fits n (Some q) = (q.size ≤ n) × (length q.meaning < q.size)
 
 passing-fits : (n : ℕ) (o : Option Quoted) → Fits n o → Fits (suc n) (passing o)
 unfolding passing
-passing-fits n none h = tt
-passing-fits n (some q) h = (omega arith, omega arith)
+passing-fits n None h = tt
+passing-fits n (Some q) h = (omega arith, omega arith)
 
 keeping-fits : (n x : ℕ) (o : Option Quoted) → Fits n o → Fits (suc n) (keeping x o)
 unfolding keeping
-keeping-fits n x none h = tt
-keeping-fits n x (some q) h = (omega arith, omega arith)
+keeping-fits n x None h = tt
+keeping-fits n x (Some q) h = (omega arith, omega arith)
 
 by_fits : (n : ℕ) (t : QuotedStep) (e : Bool) (x : ℕ) (go : ℕ → Bool → Option Quoted) → ((k : ℕ) (f : Bool) → Fits n (go k f)) → Fits (suc n) (quoted_by t e x go)
 unfolding quoted_by
@@ -57,8 +57,8 @@ unfolding size_in
 size-within k e s = within (length s) (quoted k e s) (fits k e s)
   where
     within : (n : ℕ) (o : Option Quoted) → Fits n o → size_in o ≤ n
-    within n none h = omega arith
-    within n (some q) h = h.0
+    within n None h = omega arith
+    within n (Some q) h = h.0
 
 -- where it closes, its text is shorter; where it does not, there is none
 pub meaning-within : (k : ℕ) (e : Bool) (s : List ℕ) → length (meaning_in (quoted k e s)) ≤ size_in (quoted k e s)
@@ -66,67 +66,59 @@ unfolding size_in meaning_in
 meaning-within k e s = within (length s) (quoted k e s) (fits k e s)
   where
     within : (n : ℕ) (o : Option Quoted) → Fits n o → length (meaning_in o) ≤ size_in o
-    within n none h = omega arith
-    within n (some q) h = omega arith
-
-pub meaning-less : (k : ℕ) (e : Bool) (s : List ℕ) → 0 < size_in (quoted k e s) → length (meaning_in (quoted k e s)) < size_in (quoted k e s)
-unfolding size_in meaning_in
-meaning-less k e s = within (length s) (quoted k e s) (fits k e s)
-  where
-    within : (n : ℕ) (o : Option Quoted) → Fits n o → 0 < size_in o → length (meaning_in o) < size_in o
-    within n none h l = absurd (omega arith)
-    within n (some q) h l = h.1
+    within n None h = omega arith
+    within n (Some q) h = omega arith
 
 -- one byte less of it
 passing_left : (n : ℕ) (o : Option Quoted) → Fits n o → 0 < size_in (passing o) → 0 < size_in o
 unfolding passing size_in
-passing_left n none h l = l
-passing_left n (some q) h l = omega arith
+passing_left n None h l = l
+passing_left n (Some q) h l = omega arith
 
 keeping_left : (n x : ℕ) (o : Option Quoted) → Fits n o → 0 < size_in (keeping x o) → 0 < size_in o
 unfolding keeping size_in
-keeping_left n x none h l = l
-keeping_left n x (some q) h l = omega arith
+keeping_left n x None h l = l
+keeping_left n x (Some q) h l = omega arith
 
 passing-meaning : (o : Option Quoted) → meaning_in (passing o) ≡ meaning_in o
 unfolding passing meaning_in
-passing-meaning none = refl
-passing-meaning (some q) = refl
+passing-meaning None = refl
+passing-meaning (Some q) = refl
 
 keeping-meaning : (x : ℕ) (o : Option Quoted) → 0 < size_in o → meaning_in (keeping x o) ≡ x ∷ meaning_in o
 unfolding keeping meaning_in size_in
-keeping-meaning x none h = absurd (omega arith)
-keeping-meaning x (some q) h = refl
+keeping-meaning x None h = absurd (omega arith)
+keeping-meaning x (Some q) h = refl
 
 -- ---- where it ends
 
 passing-end : (i : ℕ) (o : Option Quoted) → quoted_end i (passing o) ≡ quoted_end (i + 1) o
 unfolding passing quoted_end
-passing-end i none = refl
-passing-end i (some q) = let e : i + suc q.size ≡ i + 1 + q.size = omega arith in rw e
+passing-end i None = refl
+passing-end i (Some q) = let e : i + suc q.size ≡ i + 1 + q.size = omega arith in rw e
 
 keeping-end : (i x : ℕ) (o : Option Quoted) → quoted_end i (keeping x o) ≡ quoted_end (i + 1) o
 unfolding keeping quoted_end
-keeping-end i x none = refl
-keeping-end i x (some q) = let e : i + suc q.size ≡ i + 1 + q.size = omega arith in rw e
+keeping-end i x None = refl
+keeping-end i x (Some q) = let e : i + suc q.size ≡ i + 1 + q.size = omega arith in rw e
 
 -- what an answer says of its size
-pub end-at : (i : ℕ) (s : List ℕ) (e : ℕ) → quoted_end i (quoted 0 false s) ≡ some e
+pub end-at : (i : ℕ) (s : List ℕ) (e : ℕ) → quoted_end i (quoted 0 false s) ≡ Some e
     → (0 < size_in (quoted 0 false s)) × (e ≡ i + size_in (quoted 0 false s))
 unfolding quoted_end size_in
 end-at i s e = at (length s) (quoted 0 false s) (fits 0 false s)
   where
-    at : (n : ℕ) (o : Option Quoted) → Fits n o → quoted_end i o ≡ some e → (0 < size_in o) × (e ≡ i + size_in o)
-    at n none h q = none-some q
-    at n (some o) h q = (omega arith, sym (some_same q))
+    at : (n : ℕ) (o : Option Quoted) → Fits n o → quoted_end i o ≡ Some e → (0 < size_in o) × (e ≡ i + size_in o)
+    at n None h q = absurd (none-some _ q)
+    at n (Some o) h q = (omega arith, sym (same_Some _ _ q))
 
-pub end_never : (i : ℕ) (s : List ℕ) → quoted_end i (quoted 0 false s) ≡ none → size_in (quoted 0 false s) ≡ 0
+pub end_never : (i : ℕ) (s : List ℕ) → quoted_end i (quoted 0 false s) ≡ None → size_in (quoted 0 false s) ≡ 0
 unfolding quoted_end size_in
 end_never i s = never (quoted 0 false s)
   where
-    never : (o : Option Quoted) → quoted_end i o ≡ none → size_in o ≡ 0
-    never none q = refl
-    never (some o) q = none-some (sym q)
+    never : (o : Option Quoted) → quoted_end i o ≡ None → size_in o ≡ 0
+    never None q = refl
+    never (Some o) q = absurd (none-some _ (sym q))
 
 -- ---- what stands at its front
 
@@ -185,7 +177,7 @@ module _ (s : List ℕ) (i : ℕ) (e : Bool) where
   unfolding quoted_by
   at-fold h q = at_step Fold h q ∙ rw (quoted-one e (drop (suc i) s), beyond s i)
 
-  at_close : i < length s → step_at s i e ≡ Close → quoted 0 e (drop i s) ≡ some (record { size = 1; meaning = [] })
+  at_close : i < length s → step_at s i e ≡ Close → quoted 0 e (drop i s) ≡ Some (record { size = 1; meaning = [] })
   unfolding quoted_by
   at_close h q = at_step Close h q
 
@@ -197,11 +189,11 @@ module _ (s : List ℕ) (i : ℕ) (e : Bool) where
   unfolding quoted_by
   at_keep h q = at_step Keep h q ∙ rw add-one
 
-  at_break : i < length s → step_at s i e ≡ Break → quoted 0 e (drop i s) ≡ none
+  at_break : i < length s → step_at s i e ≡ Break → quoted 0 e (drop i s) ≡ None
   unfolding quoted_by
   at_break h q = at_step Break h q
 
-  at-end : length s ≤ i → quoted 0 e (drop i s) ≡ none
+  at-end : length s ≤ i → quoted 0 e (drop i s) ≡ None
   unfolding quoted
   at-end h = rw (drop_of_length-le s h)
 
@@ -212,7 +204,7 @@ module _ (s : List ℕ) (i : ℕ) (e : Bool) where
       let n : i + 1 + 1 ≡ i + 2 = omega arith in
       rw (at-fold h q, passing-end i (passing o), passing-end (i + 1) o, n)
 
-  pub end_close : i < length s → step_at s i e ≡ Close → quoted_end i (quoted 0 e (drop i s)) ≡ some (i + 1)
+  pub end_close : i < length s → step_at s i e ≡ Close → quoted_end i (quoted 0 e (drop i s)) ≡ Some (i + 1)
   unfolding quoted_end
   end_close h q = rw (at_close h q)
 
@@ -222,11 +214,11 @@ module _ (s : List ℕ) (i : ℕ) (e : Bool) where
   pub end_keep : i < length s → step_at s i e ≡ Keep → quoted_end i (quoted 0 e (drop i s)) ≡ quoted_end (i + 1) (quoted 0 false (drop (i + 1) s))
   end_keep h q = rw (at_keep h q, keeping-end i (get_or s i 0) (quoted 0 false (drop (i + 1) s)))
 
-  pub end_break : i < length s → step_at s i e ≡ Break → quoted_end i (quoted 0 e (drop i s)) ≡ none
+  pub end_break : i < length s → step_at s i e ≡ Break → quoted_end i (quoted 0 e (drop i s)) ≡ None
   unfolding quoted_end
   end_break h q = rw (at_break h q)
 
-  pub end-end : length s ≤ i → quoted_end i (quoted 0 e (drop i s)) ≡ none
+  pub end-end : length s ≤ i → quoted_end i (quoted 0 e (drop i s)) ≡ None
   unfolding quoted_end
   end-end h = rw (at-end h)
 

@@ -4,7 +4,7 @@
 use mathlib.Core.Path.{◌≡◌, refl, sym}
 use mathlib.Core.Bool.{Bool, true, false, ◌||◌, cond}
 use mathlib.Core.List.{List, [], ◌∷◌}
-use mathlib.Core.Option.{Option, none, some}
+use Rattle.std.proofs.Common.{Option, None, Some}
 use Prim.Native.Nat.{ℕ, zero, suc, ◌+◌, ◌≤◌, ◌<◌}
 use native.Mathlib.Omega.{arith}
 use lib.Dec.{eqb}
@@ -12,7 +12,7 @@ use lib.ListN.{length, get_or}
 use Rattle.chars.specs.Lists.{all}
 use Rattle.chars.proofs.Laws.Lists.{and_both, by_test}
 use Rattle.mailaddr.specs.Shape.{escaped, is_text}
-use Rattle.chars.proofs.Laws.Options.{none-some, some_same}
+use Rattle.std.proofs.lemmas.Option.{none-some, same_Some}
 use Rattle.lexical.specs.Space.{is_fold}
 use Rattle.lexical.specs.Quoted.{Quoted, keeping, meaning_in, passing, quoted, quoted_by, quoted_step, size_in, text_step}
 use Rattle.lexical.specs.declared.quoted.QuotedStep.{QuotedStep}
@@ -62,35 +62,35 @@ kept false x y z s h =
 
 -- ---- a byte at a time
 
-passed-read : {e f : Bool} {x : ℕ} {s : List ℕ} (o : Option Quoted) (q : Quoted) → passing o ≡ some q → pending f ≤ suc (pending e)
-    → ((r : Quoted) → o ≡ some r → Read f s r) → Read e (x ∷ s) q
+passed-read : {e f : Bool} {x : ℕ} {s : List ℕ} (o : Option Quoted) (q : Quoted) → passing o ≡ Some q → pending f ≤ suc (pending e)
+    → ((r : Quoted) → o ≡ Some r → Read f s r) → Read e (x ∷ s) q
 unfolding passing
-passed-read none q h l g = none-some h
-passed-read (some r) q h l g =
+passed-read None q h l g = absurd (none-some _ h)
+passed-read (Some r) q h l g =
     let k = g r refl in
-    rw (sym (some_same h)) (record { texts = k.texts; longer = omega arith; inside = omega arith })
+    rw (sym (same_Some _ _ h)) (record { texts = k.texts; longer = omega arith; inside = omega arith })
 
-kept_read : {e : Bool} {x : ℕ} {s : List ℕ} (y z : ℕ) (o : Option Quoted) (q : Quoted) → quoted_step e x y z ≡ Keep → keeping x o ≡ some q
-    → ((r : Quoted) → o ≡ some r → Read false s r) → Read e (x ∷ s) q
+kept_read : {e : Bool} {x : ℕ} {s : List ℕ} (y z : ℕ) (o : Option Quoted) (q : Quoted) → quoted_step e x y z ≡ Keep → keeping x o ≡ Some q
+    → ((r : Quoted) → o ≡ Some r → Read false s r) → Read e (x ∷ s) q
 unfolding keeping all pending
-kept_read y z none q t h g = none-some h
-kept_read {e} {x} y z (some r) q t h g =
+kept_read y z None q t h g = absurd (none-some _ h)
+kept_read {e} {x} y z (Some r) q t h g =
     let k = g r refl in
     let m = kept e x y z r.meaning t in
-    rw (sym (some_same h)) (record { texts = and_both m.0 k.texts; longer = omega arith; inside = omega arith })
+    rw (sym (same_Some _ _ h)) (record { texts = and_both m.0 k.texts; longer = omega arith; inside = omega arith })
 
 step_read : (t : QuotedStep) (e : Bool) (x y z : ℕ) (s : List ℕ) (q : Quoted) → quoted_step e x y z ≡ t
-    → quoted_by t e x (λ k f. quoted k f s) ≡ some q → ((k : ℕ) (f : Bool) (r : Quoted) → quoted k f s ≡ some r → Read f s r) → Read e (x ∷ s) q
+    → quoted_by t e x (λ k f. quoted k f s) ≡ Some q → ((k : ℕ) (f : Bool) (r : Quoted) → quoted k f s ≡ Some r → Read f s r) → Read e (x ∷ s) q
 unfolding quoted_by pending all escaped
 step_read Fold e x y z s q t h g = passed-read (quoted 1 e s) q h (omega arith) (g 1 e)
-step_read Close e x y z s q t h g = rw (sym (some_same h)) (record { texts = refl; longer = omega arith; inside = omega arith })
+step_read Close e x y z s q t h g = rw (sym (same_Some _ _ h)) (record { texts = refl; longer = omega arith; inside = omega arith })
 step_read Escape e x y z s q t h g = passed-read (quoted zero true s) q h (omega arith) (g zero true)
 step_read Keep e x y z s q t h g = kept_read y z (quoted zero false s) q t h (g zero false)
-step_read Break e x y z s q t h g = none-some h
+step_read Break e x y z s q t h g = absurd (none-some _ h)
 
-quoted-read : (k : ℕ) (e : Bool) (s : List ℕ) (q : Quoted) → quoted k e s ≡ some q → Read e s q
+quoted-read : (k : ℕ) (e : Bool) (s : List ℕ) (q : Quoted) → quoted k e s ≡ Some q → Read e s q
 unfolding quoted
-quoted-read k e [] q h = none-some h
+quoted-read k e [] q h = absurd (none-some _ h)
 quoted-read (suc k) e (x ∷ s) q h = passed-read (quoted k e s) q h (omega arith) (quoted-read k e s)
 quoted-read zero e (x ∷ s) q h =
     step_read (quoted_step e x (get_or s 0 0) (get_or s 1 0)) e x (get_or s 0 0) (get_or s 1 0) s q refl h (λ k f. quoted-read k f s)
@@ -104,8 +104,8 @@ pub record Closes (s : List ℕ) (o : Option Quoted) : Type 0 where
 
 closes-some : (s : List ℕ) (o : Option Quoted) → quoted zero false s ≡ o → 0 < size_in o → Closes s o
 unfolding size_in meaning_in pending
-closes-some s none e h = absurd (omega arith)
-closes-some s (some q) e h =
+closes-some s None e h = absurd (omega arith)
+closes-some s (Some q) e h =
     let r = quoted-read zero false s q e in
     record { texts = r.texts; longer = omega arith; inside = r.inside }
 

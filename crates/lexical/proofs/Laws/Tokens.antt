@@ -3,12 +3,13 @@
 use mathlib.Core.Path.{◌≡◌, refl, sym, ap, ◌∙◌}
 use mathlib.Core.Bool.{true, false}
 use mathlib.Core.List.{List, [], ◌∷◌}
-use mathlib.Core.Option.{Option, none, some}
+use Rattle.std.proofs.Common.{Option, None, Some}
 use Prim.Native.Nat.{ℕ, zero, suc, ◌+◌, ◌-◌, ◌≤◌, ◌<◌}
 use native.Mathlib.Nat.{add-zero}
 use native.Mathlib.Numerals.{add-one}
 use native.Mathlib.Omega.{arith}
 use borrow.Author.Tests.{eq-eqb, eqb-true, lt-ltb, ne_eqb}
+use Rattle.std.specs.List.{prefix_len}
 use lib.Dec.{eqb}
 use lib.ListN.{length, take, drop, get_or, length-drop, drop_of_length-le}
 use lib.Seq.{drop-cons, drop-drop}
@@ -17,8 +18,9 @@ use Rattle.chars.specs.Lists.{bytes, first, member}
 use Rattle.chars.proofs.Laws.Lists.{by_test, true_not_false}
 use Rattle.chars.proofs.Laws.Seq.{byte_inside, second, third}
 use Rattle.mailaddr.specs.Shape.{more}
-use Rattle.chars.proofs.Laws.Options.{none-some}
-use Rattle.mailaddr.proofs.Laws.Closing.{more-some}
+use Rattle.std.proofs.lemmas.Option.{none-some, same_Some}
+use Rattle.mailaddr.specs.Answers.{unless_zero}
+use Rattle.lexical.proofs.Laws.Comment.{comment-some}
 use Rattle.lexical.specs.Answers.{Behind, Lexed, atom_word, quoted_end, quoted_word, tokens_by, tokens_of}
 use Rattle.lexical.specs.Comment.{comment, content, content_by, content_step, deepest_comment}
 use Rattle.lexical.specs.Quoted.{meaning_in, quoted, size_in}
@@ -32,30 +34,23 @@ use Rattle.lexical.proofs.Laws.Quoted.{end-at, end_never, fold-some, size-within
 
 -- ---- atoms
 
-module _ (s : List ℕ) (i : ℕ) where
-  pub atom_more : i < length s → is_atom_char (get_or s i 0) ≡ true → i + atom_run (drop i s) ≡ i + 1 + atom_run (drop (i + 1) s)
-  unfolding atom_run
-  atom_more h e = rw (drop-cons s i 0 h, e, add-one i) (omega arith)
-
-  pub atom_stop : i < length s → is_atom_char (get_or s i 0) ≡ false → i + atom_run (drop i s) ≡ i
-  unfolding atom_run
-  atom_stop h e = rw (drop-cons s i 0 h, e) (omega arith)
-
-  pub atom_end : length s ≤ i → i + atom_run (drop i s) ≡ i
-  unfolding atom_run
-  atom_end h = rw (drop_of_length-le s h) (omega arith)
-
 pub atom_within : (s : List ℕ) → atom_run s ≤ length s
 unfolding atom_run
 atom_within [] = omega arith
 atom_within (x ∷ s) = by_test (is_atom_char x) (λ e. rw e (omega (arith, atom_within s))) (λ e. rw e (omega arith))
 
+-- the library's word for it
+pub run_is : (s : List ℕ) → prefix_len is_atom_char s ≡ atom_run s
+unfolding atom_run
+run_is [] = refl
+run_is (x ∷ s) = by_test (is_atom_char x) (λ e. rw (e, run_is s) (omega arith)) (λ e. rw e)
+
 -- ---- white space and comments
 
 more_within : (n : ℕ) (o : Option ℕ) → comment_size o ≤ n → comment_size (more 1 o) ≤ suc n
 unfolding more comment_size
-more_within n none h = omega arith
-more_within n (some k) h = omega arith
+more_within n None h = omega arith
+more_within n (Some k) h = omega arith
 
 by-within : (n : ℕ) (t : ContentStep) (left opened : ℕ) (go : ℕ → ℕ → ℕ → Option ℕ) → ((k l o : ℕ) → comment_size (go k l o) ≤ n)
     → comment_size (content_by t left opened go) ≤ suc n
@@ -86,35 +81,38 @@ comment-within (suc l) x s =
 
 -- what stands at a place, by the tests of the code
 module _ (s : List ℕ) (i : ℕ) (h : i < length s) where
-  pub gap_space : is_space (get_or s i 0) ≡ true → gap (drop i s) ≡ 1
-  unfolding gap
+  pub gap_space : is_space (get_or s i 0) ≡ true → more i (unless_zero (gap (drop i s))) ≡ Some (i + 1)
+  unfolding gap more
   gap_space e = rw (drop-cons s i 0 h, e)
 
-  pub gap-fold : is_space (get_or s i 0) ≡ false → is_fold (get_or s i 0) (get_or s (i + 1) 0) (get_or s (i + 2) 0) ≡ true → gap (drop i s) ≡ 2
-  unfolding gap
+  pub gap-fold : is_space (get_or s i 0) ≡ false → is_fold (get_or s i 0) (get_or s (i + 1) 0) (get_or s (i + 2) 0) ≡ true
+      → more i (unless_zero (gap (drop i s))) ≡ Some (i + 2)
+  unfolding gap more
   gap-fold e f = rw (drop-cons s i 0 h, e, second s i, third s i, f)
 
-  gap-comment : is_space (get_or s i 0) ≡ false → is_fold (get_or s i 0) (get_or s (i + 1) 0) (get_or s (i + 2) 0) ≡ false
-      → gap (drop i s) ≡ comment_size (comment deepest_comment (drop i s))
-  unfolding gap
-  gap-comment e f = rw (drop-cons s i 0 h, e, second s i, third s i, f)
-
-  pub gap_never : is_space (get_or s i 0) ≡ false → is_fold (get_or s i 0) (get_or s (i + 1) 0) (get_or s (i + 2) 0) ≡ false
-      → more i (comment deepest_comment (drop i s)) ≡ none → gap (drop i s) ≡ 0
-  unfolding more comment_size
-  gap_never e f q = gap-comment e f ∙ never (comment deepest_comment (drop i s)) q
+  pub gap-comment : is_space (get_or s i 0) ≡ false → is_fold (get_or s i 0) (get_or s (i + 1) 0) (get_or s (i + 2) 0) ≡ false
+      → more i (unless_zero (gap (drop i s))) ≡ more i (comment deepest_comment (drop i s))
+  unfolding gap comment_size
+  gap-comment e f =
+      let g : gap (drop i s) ≡ comment_size (comment deepest_comment (drop i s)) = rw (drop-cons s i 0 h, e, second s i, third s i, f) in
+      ap (λ n. more i (unless_zero n)) g
+      ∙ ap (more i) (sized (comment deepest_comment (drop i s)) (λ n q. comment-some deepest_comment (drop i s) n q))
     where
-      never : (o : Option ℕ) → more i o ≡ none → comment_size o ≡ 0
-      never none q = refl
-      never (some n) q = none-some (sym q)
+      sized : (o : Option ℕ) → ((n : ℕ) → o ≡ Some n → 0 < n) → unless_zero (comment_size o) ≡ o
+      sized None k = refl
+      sized (Some zero) k = absurd (omega (arith, k 0 refl))
+      sized (Some (suc n)) k = refl
 
-  pub gap_ends : is_space (get_or s i 0) ≡ false → is_fold (get_or s i 0) (get_or s (i + 1) 0) (get_or s (i + 2) 0) ≡ false
-      → (e : ℕ) → more i (comment deepest_comment (drop i s)) ≡ some e → e ≡ i + gap (drop i s)
-  unfolding comment_size
-  gap_ends e f n q =
-      let p = more-some i (comment deepest_comment (drop i s)) n q in
-      let k : gap (drop i s) ≡ p.0 = gap-comment e f ∙ ap comment_size p.1 in
-      omega (arith, p.2)
+-- what the answer of a call says of the white space or comment
+pub gap_some : (i g e : ℕ) → Some e ≡ more i (unless_zero g) → (e ≡ i + g) × (0 < g)
+unfolding more
+gap_some i zero e h = absurd (none-some _ (sym h))
+gap_some i (suc g) e h = (same_Some _ _ h, omega arith)
+
+pub gap_none : (i g : ℕ) → None ≡ more i (unless_zero g) → g ≡ 0
+unfolding more
+gap_none i zero h = refl
+gap_none i (suc g) h = absurd (none-some _ h)
 
 pub gap_within : (s : List ℕ) → gap s ≤ length s
 unfolding gap
@@ -252,13 +250,13 @@ module _ (s : List ℕ) (i : ℕ) (h : i < length s) (g : gap (drop i s) ≡ 0) 
       → Lexed s i (record { kind = Bad; start = i; end = i })
   lex_bad a b c = bad-here (at_front s i h ∙ front-bad i (get_or s i 0) (drop (suc i) s) none_here a b (ne_eqb (get_or s i 0) 34 c))
 
-  pub lex_unclosed : get_or s i 0 ≡ 34 → quoted_end (i + 1) (quoted 0 false (drop (i + 1) s)) ≡ none → Lexed s i (record { kind = Bad; start = i; end = i })
+  pub lex_unclosed : get_or s i 0 ≡ 34 → quoted_end (i + 1) (quoted 0 false (drop (i + 1) s)) ≡ None → Lexed s i (record { kind = Bad; start = i; end = i })
   lex_unclosed b q =
       let t = drop (suc i) s in
       let z : size_in (quoted 0 false t) ≡ 0 = rw (add-one i) at (end_never (i + 1) (drop (i + 1) s) q) in
       bad-here (at_front s i h ∙ front_unclosed i (get_or s i 0) t none_here b z)
 
-  pub lex_quoted : get_or s i 0 ≡ 34 → (e : ℕ) → quoted_end (i + 1) (quoted 0 false (drop (i + 1) s)) ≡ some e
+  pub lex_quoted : get_or s i 0 ≡ 34 → (e : ℕ) → quoted_end (i + 1) (quoted 0 false (drop (i + 1) s)) ≡ Some e
       → Lexed s i (record { kind = QuotedKind; start = i; end = e })
   unfolding tokens_of tokens_by quoted_word
   lex_quoted b e q =

@@ -4,20 +4,20 @@
 use mathlib.Core.Path.{◌≡◌, refl, sym, ap, ◌∙◌}
 use mathlib.Core.Bool.{true, false, not, ◌&&◌, ◌||◌, cond}
 use mathlib.Core.List.{List, [], ◌∷◌, ◌++◌}
-use mathlib.Core.Option.{Option, none, some}
+use Rattle.std.proofs.Common.{Option, None, Some}
 use Prim.Native.Nat.{ℕ, zero, suc, ◌+◌, ◌-◌, ◌*◌, ◌≤◌, ◌<◌}
 use native.Mathlib.Numerals.{add-one}
 use native.Mathlib.Omega.{arith}
 use borrow.Author.Tests.{eqb-true, leb-true, ltb-true, ltb-false}
 use lib.Dec.{eqb, leb, ltb}
-use lib.ListN.{length, take, drop, get_or, length-append, drop_of_length-le}
+use lib.ListN.{length, take, drop, get_or, get_or-eq_default, length-append, drop_of_length-le}
 use lib.Seq.{sets, drop-cons, length-take-le, take-take}
 use Rattle.chars.specs.Lists.{all}
 use Rattle.chars.specs.Class.{between}
 use Rattle.chars.specs.Write.{Wrote}
 use Rattle.chars.proofs.Laws.Lists.{and_left, and_right, by_test, true_not_false}
 use Rattle.chars.proofs.Laws.Lists.{neither}
-use Rattle.chars.proofs.Laws.Options.{none-some, some_same}
+use Rattle.std.proofs.lemmas.Option.{none-some, same_Some}
 use Rattle.chars.proofs.Laws.Seq.{beyond, drop-take, second}
 use Rattle.chars.proofs.Laws.Write.{sets-append}
 use Rattle.mailaddr.specs.Shape.{closing, escaped, inner, is_text, more, unescaped}
@@ -26,29 +26,29 @@ use Rattle.mailaddr.specs.Shape.{closing, escaped, inner, is_text, more, unescap
 
 pub more-more : (m n : ℕ) (o : Option ℕ) → more m (more n o) ≡ more (m + n) o
 unfolding more
-more-more m n none = refl
-more-more m n (some k) = let e : m + (n + k) ≡ m + n + k = omega arith in rw e
+more-more m n None = refl
+more-more m n (Some k) = let e : m + (n + k) ≡ m + n + k = omega arith in rw e
 
 -- at the closing quote, at a backslash, and at another byte
-close_quote : (x : ℕ) (t : List ℕ) → eqb x 34 ≡ true → closing (x ∷ t) ≡ some 1
+close_quote : (x : ℕ) (t : List ℕ) → eqb x 34 ≡ true → closing (x ∷ t) ≡ Some 1
 unfolding closing
 close_quote x [] e = rw e
 close_quote x (y ∷ t) e = rw e
 
 close_escape : (x : ℕ) (t : List ℕ) → eqb x 34 ≡ false → eqb x 92 ≡ true
-    → closing (x ∷ t) ≡ cond (is_text (get_or t 0 0)) (more 2 (closing (drop 1 t))) none
+    → closing (x ∷ t) ≡ cond (is_text (get_or t 0 0)) (more 2 (closing (drop 1 t))) None
 unfolding closing is_text between
 close_escape x [] e f = rw e
 close_escape x (y ∷ t) e f = rw (e, f)
 
-close_text_lem : (x : ℕ) (t : List ℕ) → eqb x 34 ≡ false → eqb x 92 ≡ false → closing (x ∷ t) ≡ cond (is_text x) (more 1 (closing t)) none
+close_text_lem : (x : ℕ) (t : List ℕ) → eqb x 34 ≡ false → eqb x 92 ≡ false → closing (x ∷ t) ≡ cond (is_text x) (more 1 (closing t)) None
 unfolding closing more
 close_text_lem x [] e f = by_test (is_text x) (λ g. rw (e, g)) (λ g. rw (e, g))
 close_text_lem x (y ∷ t) e f = rw (e, f)
 
 -- the same of what is left of a text from a place on
 module _ (s : List ℕ) (i : ℕ) where
-  pub at_quote : i < length s → eqb (get_or s i 0) 34 ≡ true → more i (closing (drop i s)) ≡ some (i + 1)
+  pub at_quote : i < length s → eqb (get_or s i 0) 34 ≡ true → more i (closing (drop i s)) ≡ Some (i + 1)
   unfolding more
   at_quote h e = rw (drop-cons s i 0 h, close_quote (get_or s i 0) (drop (suc i) s) e)
 
@@ -57,7 +57,7 @@ module _ (s : List ℕ) (i : ℕ) where
   at-text h e f g = rw (drop-cons s i 0 h, close_text_lem (get_or s i 0) (drop (suc i) s) e f, g, more-more i 1 (closing (drop (suc i) s)), add-one i)
 
   pub at_other : i < length s → eqb (get_or s i 0) 34 ≡ false → eqb (get_or s i 0) 92 ≡ false → is_text (get_or s i 0) ≡ false
-      → more i (closing (drop i s)) ≡ none
+      → more i (closing (drop i s)) ≡ None
   unfolding more
   at_other h e f g = rw (drop-cons s i 0 h, close_text_lem (get_or s i 0) (drop (suc i) s) e f, g)
 
@@ -68,22 +68,51 @@ module _ (s : List ℕ) (i : ℕ) where
       (more-more i 2 (closing (drop (i + 2) s)))
 
   pub at_broken : i < length s → eqb (get_or s i 0) 34 ≡ false → eqb (get_or s i 0) 92 ≡ true → is_text (get_or s (i + 1) 0) ≡ false
-      → more i (closing (drop i s)) ≡ none
+      → more i (closing (drop i s)) ≡ None
   unfolding more
   at_broken h e f g = rw (drop-cons s i 0 h, close_escape (get_or s i 0) (drop (suc i) s) e f, second s i, g)
 
-  pub at-end : length s ≤ i → more i (closing (drop i s)) ≡ none
+  pub at-end : length s ≤ i → more i (closing (drop i s)) ≡ None
   unfolding more closing
   at-end h = rw (drop_of_length-le s h)
+
+-- the same by where the next character stands, as the code asks
+module _ (s : List ℕ) (i : ℕ) (h : i < length s) (o : eqb (get_or s i 0) 34 ≡ false) (f : ℕ)
+    (q : f ≡ cond (eqb (get_or s i 0) 92 && ltb (i + 1) (length s)) (i + 1) i) where
+  pub at_char : is_text (get_or s f 0) ≡ true → more i (closing (drop i s)) ≡ more (f + 1) (closing (drop (f + 1) s))
+  unfolding is_text between
+  at_char t =
+      by_test (eqb (get_or s i 0) 92)
+      (λ e. by_test (ltb (i + 1) (length s))
+      (λ g. let p : f ≡ i + 1 = q ∙ rw (e, g) in
+      let n : f + 1 ≡ i + 2 = omega arith in
+      at_escape s i h o e (ap (λ k. is_text (get_or s k 0)) (sym p) ∙ t) ∙ rw n)
+      (λ g. let k : length s ≤ i + 1 = ltb-false (i + 1) (length s) g in
+      let p : f ≡ i = q ∙ rw (e, g) in
+      at_broken s i h o e (ap is_text (get_or-eq_default s 0 k)) ∙ sym (at-end s (f + 1) (omega arith))))
+      (λ e. let p : f ≡ i = q ∙ rw e in
+      at-text s i h o e (ap (λ k. is_text (get_or s k 0)) (sym p) ∙ t) ∙ rw p)
+
+  pub at_char_broken : is_text (get_or s f 0) ≡ false → more i (closing (drop i s)) ≡ None
+  unfolding is_text between
+  at_char_broken t =
+      by_test (eqb (get_or s i 0) 92)
+      (λ e. by_test (ltb (i + 1) (length s))
+      (λ g. let p : f ≡ i + 1 = q ∙ rw (e, g) in
+      at_broken s i h o e (ap (λ k. is_text (get_or s k 0)) (sym p) ∙ t))
+      (λ g. let k : length s ≤ i + 1 = ltb-false (i + 1) (length s) g in
+      at_broken s i h o e (ap is_text (get_or-eq_default s 0 k))))
+      (λ e. let p : f ≡ i = q ∙ rw e in
+      at_other s i h o e (ap (λ k. is_text (get_or s k 0)) (sym p) ∙ t))
 
 pub text-some : (b : ℕ) → is_text b ≡ true → 0 < b
 unfolding is_text between
 text-some b e = omega (arith, leb-true 32 b (and_left (leb 32 b) (leb b 126) e))
 
-pub more-some : (m : ℕ) (o : Option ℕ) (n : ℕ) → more m o ≡ some n → (k : ℕ) × (o ≡ some k) × (n ≡ m + k)
+pub more-some : (m : ℕ) (o : Option ℕ) (n : ℕ) → more m o ≡ Some n → (k : ℕ) × (o ≡ Some k) × (n ≡ m + k)
 unfolding more
-more-some m none n h = none-some h
-more-some m (some k) n h = (k, refl, cc)
+more-some m None n h = absurd (none-some n h)
+more-some m (Some k) n h = (k, refl, cc)
 
 -- ---- a quoted string that closes
 
@@ -91,8 +120,8 @@ more-some m (some k) n h = (k, refl, cc)
 pub record Closed (t : List ℕ) (n : ℕ) : Type 0 where
   pub inside : n ≤ length t
   pub texts : all is_text (take n t) ≡ true
-  pub whole : closing (take n t) ≡ some n
-  pub longer : (u : List ℕ) → closing (t ++ u) ≡ some n
+  pub whole : closing (take n t) ≡ Some n
+  pub longer : (u : List ℕ) → closing (t ++ u) ≡ Some n
 
 one_plus : (n : ℕ) → 1 + n ≡ suc n
 one_plus n = omega arith
@@ -132,23 +161,23 @@ closed_escape x y t n e f g h =
       longer = λ u. rw (close_escape x (y ∷ t ++ u) e f, g, h.longer u, two_plus n);
     })
 
-pub closes : (t : List ℕ) (n : ℕ) → closing t ≡ some n → Closed t n
+pub closes : (t : List ℕ) (n : ℕ) → closing t ≡ Some n → Closed t n
 unfolding closing
-closes [] n h = none-some h
+closes [] n h = absurd (none-some n h)
 closes (x ∷ []) n h =
     by_test (eqb x 34)
-    (λ e. let q : 1 ≡ n = some_same (rw e at h) in rw (sym q) (closed_quote x [] e))
-    (λ e. none-some (rw e at h))
+    (λ e. let q : 1 ≡ n = same_Some 1 n (rw e at h) in rw (sym q) (closed_quote x [] e))
+    (λ e. absurd (none-some n (rw e at h)))
 closes (x ∷ y ∷ s) n h =
     by_test (eqb x 34)
-    (λ e. let q : 1 ≡ n = some_same (rw e at h) in rw (sym q) (closed_quote x (y ∷ s) e))
+    (λ e. let q : 1 ≡ n = same_Some 1 n (rw e at h) in rw (sym q) (closed_quote x (y ∷ s) e))
     (λ e. by_test (eqb x 92)
     (λ f. by_test (is_text y)
     (λ g. let q = more-some 2 (closing s) n (rw (e, f, g) at h) in rw q.2 (closed_escape x y s q.0 e f g (closes s q.0 q.1)))
-    (λ g. none-some (rw (e, f, g) at h)))
+    (λ g. absurd (none-some n (rw (e, f, g) at h))))
     (λ f. by_test (is_text x)
     (λ g. let q = more-some 1 (closing (y ∷ s)) n (rw (e, f, g) at h) in rw q.2 (closed-text x (y ∷ s) q.0 e f g (closes (y ∷ s) q.0 q.1)))
-    (λ g. none-some (rw (e, f, g) at h))))
+    (λ g. absurd (none-some n (rw (e, f, g) at h)))))
 
 -- ---- escaped and unescaped
 
@@ -165,7 +194,7 @@ unescape_escape (x ∷ u) =
     (λ e. rw (e, unescape_escape u))
     (λ e. rw (e, unescaped-plain x (escaped u) (neither (eqb x 34) (eqb x 92) e).1, unescape_escape u))
 
-pub escaped_close : (u : List ℕ) → all is_text u ≡ true → closing (escaped u ++ 34 ∷ []) ≡ some (length (escaped u) + 1)
+pub escaped_close : (u : List ℕ) → all is_text u ≡ true → closing (escaped u ++ 34 ∷ []) ≡ Some (length (escaped u) + 1)
 unfolding escaped all more
 escaped_close [] h = close_quote 34 [] refl
 escaped_close (x ∷ u) h =

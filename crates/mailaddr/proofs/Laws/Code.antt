@@ -6,6 +6,7 @@ use Prim.Native.Nat.{ℕ, zero, suc, ◌+◌, ◌/◌, ◌%◌, ◌≤◌, ◌<�
 use mathlib.Core.Bool.{Bool, true, false, not, ◌&&◌, ◌||◌, cond}
 use mathlib.Core.List.{List, [], ◌∷◌, ◌++◌, append_assoc, append-nil}
 use mathlib.Core.Option.{none, some}
+use Rattle.std.proofs.Common.{None, Some}
 use native.Mathlib.Nat.{add-zero}
 use native.Mathlib.Numerals.{add-one}
 use native.Mathlib.Omega.{arith}
@@ -24,11 +25,12 @@ use Rattle.chars.proofs.Laws.Class.{at_char, char_most, matches}
 use Rattle.chars.proofs.Laws.Digits.{digits_back, is_number, number-value}
 use Rattle.chars.proofs.Laws.Options.{ahead, ahead-nothing, ahead-onto, none-some, onto-some, some_same}
 use Rattle.chars.proofs.Laws.Seq.{some-length}
+use Rattle.mailaddr.proofs.Laws.Options.{unless-none, unless-some}
 use Rattle.chars.proofs.Laws.Spaces.{adjacent-append}
 use Rattle.chars.proofs.Laws.Write.{wrote-front, wrote_nothing, wrote_then}
 use Rattle.oraddr.specs.Bounds.{dd_value, bound_of, is_value}
 use Rattle.mailaddr.specs.declared.code.Group.{Group}
-use Rattle.mailaddr.specs.Answers.{Grouped, from_group, letter_group}
+use Rattle.mailaddr.specs.Answers.{Grouped, from_group, letter_group, unless_zero}
 use Rattle.mailaddr.specs.Code.{char_of, coded, coded_char, coded_from, decoded, decoded_after, index_of, is_letter_group, letter_of, longest_coded_char, numbered}
 
 -- ---- an ASCII character, coded: laws of each by a computed test
@@ -60,6 +62,22 @@ char_length a b =
     by_test (eqb (letter_of b) 0)
     (λ e. by_test (is_printable b && not (a && eqb b 32)) (λ k. rw (e, k) (omega arith, omega arith)) (λ k. rw (e, k) (omega arith, omega arith)))
     (λ e. rw e (omega arith, omega arith))
+
+-- the three ways in which it is coded
+module _ (a : Bool) (b : ℕ) where
+  pub coded_letter : (l : ℕ) → Some l ≡ unless_zero (letter_of b) → coded_char a b ≡ 40 ∷ l ∷ 41 ∷ []
+  unfolding coded_char
+  coded_letter l e =
+      let k = unless-some (letter_of b) e in
+      rw (k.0, ne_eqb l 0 k.1)
+
+  pub coded_itself : None ≡ unless_zero (letter_of b) → (is_printable b && not (a && eqb b 32)) ≡ true → coded_char a b ≡ b ∷ []
+  unfolding coded_char
+  coded_itself e k = rw (unless-none (letter_of b) e, k)
+
+  pub coded_number : None ≡ unless_zero (letter_of b) → (is_printable b && not (a && eqb b 32)) ≡ false → coded_char a b ≡ numbered b
+  unfolding coded_char
+  coded_number e k = rw (unless-none (letter_of b) e, k)
 
 -- ---- a group, decoded
 
@@ -275,17 +293,17 @@ pub record DecodedTo (s old : List ℕ) (i n : ℕ) (new : List ℕ) : Type 0 wh
 pub decoding-start : (s old : List ℕ) → DecodedTo s old 0 0 old
 decoding-start s old = record { text = []; wrote = wrote_nothing; whole = ahead-nothing (decoded s) }
 
-pub decoding_step : {s old new : List ℕ} {i n : ℕ} {g : Group} → DecodedTo s old i n new → Grouped (drop i s) g → (g.len ≡ 0 → ⊥) → DecodedTo s old (i + g.len) (n + 1) (set new n g.char)
+pub decoding_step : {s old new : List ℕ} {i n : ℕ} {g : Group} → DecodedTo s old i n new → Grouped (drop i s) (Some g) → DecodedTo s old (i + g.len) (n + 1) (set new n g.char)
 unfolding from_group
-decoding_step {s} {i = i} {g = g} d r z = record {
+decoding_step {s} {i = i} {g = g} d r = record {
   text = d.text ++ g.char ∷ [];
   wrote = wrote_then d.wrote (record { moved = refl; holds = refl });
-  whole = d.whole ∙ rw (r.holds, ne_eqb g.len 0 z, drop-drop g.len i s) (ahead-onto d.text g.char (decoded (drop (i + g.len) s)));
+  whole = d.whole ∙ rw (r.holds, drop-drop g.len i s) (ahead-onto d.text g.char (decoded (drop (i + g.len) s)));
 }
 
-pub decoding-none : {s old new : List ℕ} {i n : ℕ} {g : Group} → DecodedTo s old i n new → Grouped (drop i s) g → g.len ≡ 0 → decoded s ≡ none
+pub decoding-none : {s old new : List ℕ} {i n : ℕ} → DecodedTo s old i n new → Grouped (drop i s) None → decoded s ≡ none
 unfolding from_group ahead
-decoding-none d r z = d.whole ∙ rw (r.holds, z)
+decoding-none d r = d.whole ∙ rw r.holds
 
 pub decoding-end : {s old new : List ℕ} {i n : ℕ} → DecodedTo s old i n new → length s ≤ i → n ≤ length old → (t : List ℕ) × (decoded s ≡ some t) × (n ≡ length t) × (new ≡ front t old)
 unfolding ahead decoded decoded_after

@@ -3,23 +3,44 @@
 -- Assumes nothing.
 use mathlib.Core.Path.{◌≡◌, refl, sym, ap, ap₂, ◌∙◌}
 use Prim.Native.Nat.{ℕ, zero, suc, ◌+◌, ◌-◌, ◌≤◌, ◌<◌}
-use native.Mathlib.Numerals.{add-one}
 use native.Mathlib.Omega.{arith}
-use mathlib.Core.Bool.{true, false, not}
+use mathlib.Core.Bool.{Bool, true, false, not, cond, ◌&&◌}
 use mathlib.Core.List.{List, [], ◌∷◌, ◌++◌, map, reverse, reverse-append, reverse-cons, reverse-reverse}
+use Rattle.std.specs.List.{list_all, onto_first, prefix_len, slice_split}
 use lib.Dec.{eqb}
-use lib.ListN.{length, take, drop, get_or, length-append, length-drop, length-reverse, drop_of_length-le}
-use lib.Seq.{append_snoc, drop_at, drop-cons, length-take-le, take-add, take_all, take_at, take-suc, take-take}
+use lib.ListN.{length, take, drop, length-append, length-reverse}
+use lib.Seq.{append_snoc, drop_at, length-take-le, take-add, take_all, take_at, take-take}
 use Rattle.chars.specs.Lists.{all, non_empty}
 use Rattle.chars.specs.Class.{between, is_atom_char, is_letter}
 use Rattle.chars.specs.Case.{fold_text}
 use Rattle.chars.specs.Domain.{is_domain_part}
 use Rattle.chars.specs.Parts.{before, is_atoms, is_part, is_parted, join, run, split}
-use Rattle.chars.proofs.Laws.Lists.{all-reverse, all_weaken, and_both, and_left, one_less, true_not_false}
+use Rattle.chars.proofs.Laws.Lists.{all-reverse, all_weaken, and_left, by_test, one_less, true_not_false}
 use Rattle.chars.proofs.Laws.Domain.{domain-part_atom}
 use Rattle.chars.proofs.Laws.Seq.{map-reverse, some-reverse}
-use Rattle.chars.proofs.Laws.Parts.{clear, join-fold, join_more, join-split, run-clear, run_cut, run_le, split-append, split-at_sep, split-clear, split-end, split-fold, split_head, split-join, split_next, split_one, split-some}
+use Rattle.chars.proofs.Laws.Parts.{clear, join-fold, join_more, join-split, run-clear, run_cut, run_le, split-append, split-at_sep, split-clear, split-fold, split-join, split_one, split-some}
 use Rattle.mailaddr.specs.Domain.{domain_of, in_front, is_domain, parts_of}
+
+-- ---- the library's words for parts, tests of all and runs
+
+pub split_is : (s : List ℕ) → slice_split (λ b. eqb b 46) s ≡ split 46 s
+unfolding split before
+split_is [] = refl
+split_is (x ∷ s) = rw (← split_is s) (onto (slice_split (λ b. eqb b 46) s))
+  where
+    onto : (ps : List (List ℕ)) → cond (eqb x 46) ([] ∷ ps) (onto_first x ps) ≡ cond (eqb x 46) ([] ∷ ps) (before x ps)
+    onto [] = refl
+    onto (p ∷ ps) = refl
+
+pub all_is : {A : Type 0} (p : A → Bool) (s : List A) → list_all p s ≡ all p s
+unfolding all
+all_is p [] = refl
+all_is p (x ∷ s) = ap (λ b. p x && b) (all_is p s)
+
+pub run_is : (s : List ℕ) → prefix_len (λ b. not (eqb b 46)) s ≡ run 46 s
+unfolding run
+run_is [] = refl
+run_is (x ∷ s) = by_test (eqb x 46) (λ e. rw e) (λ e. rw (e, run_is s) (omega arith))
 
 -- ---- joining and parting
 
@@ -159,68 +180,6 @@ unfolding all
 part-clear s end r h q =
     and_left (clear 46 (take (end - r) (drop r s))) (all (clear 46) (parts_left s r))
     (ap (all (clear 46)) (sym (part-first s end r h q)) ∙ parts-clear (take end s))
-
--- a turn of the loop that looks for the start: a dot, another byte
-back_step : (s : List ℕ) (i : ℕ) → 0 < i → i ≤ length s → reverse (take i s) ≡ get_or s (i - 1) 0 ∷ reverse (take (i - 1) s)
-back_step s i h k =
-    let e : i ≡ suc (i - 1) = omega arith in
-    ap (λ (m : ℕ). reverse (take m s)) e
-    ∙ ap reverse (take-suc s (i - 1) 0 (omega arith))
-    ∙ reverse-append (take (i - 1) s) (get_or s (i - 1) 0 ∷ [])
-
-pub back_dot : (s : List ℕ) (i : ℕ) → 0 < i → i ≤ length s → eqb (get_or s (i - 1) 0) 46 ≡ true → run 46 (reverse (take i s)) ≡ 0
-unfolding run
-back_dot s i h k e = ap (run 46) (back_step s i h k) ∙ rw e
-
-pub back_byte : (s : List ℕ) (i : ℕ) → 0 < i → i ≤ length s → eqb (get_or s (i - 1) 0) 46 ≡ false
-    → run 46 (reverse (take i s)) ≡ suc (run 46 (reverse (take (i - 1) s)))
-unfolding run
-back_byte s i h k e = ap (run 46) (back_step s i h k) ∙ rw e
-
-pub back_end : (s : List ℕ) (i : ℕ) → i ≤ 0 → run 46 (reverse (take i s)) ≡ 0
-unfolding run
-back_end s i h =
-    let e : i ≡ 0 = omega arith in
-    rw e
-
--- ---- how many parts what is left has
-
-length_before : (x : ℕ) (ps : List (List ℕ)) → non_empty ps ≡ true → length (before x ps) ≡ length ps
-unfolding before non_empty
-length_before x [] h = true_not_false true refl (sym h)
-length_before x (p ∷ ps) h = refl
-
-pub count_dot : (s : List ℕ) (i : ℕ) → i < length s → eqb (get_or s i 0) 46 ≡ true → length (split 46 (drop i s)) ≡ suc (length (split 46 (drop (i + 1) s)))
-unfolding split
-count_dot s i h e = rw (add-one, drop-cons s i 0, e)
-
-pub count_byte : (s : List ℕ) (i : ℕ) → i < length s → eqb (get_or s i 0) 46 ≡ false → length (split 46 (drop i s)) ≡ length (split 46 (drop (i + 1) s))
-unfolding split
-count_byte s i h e = rw (add-one, drop-cons s i 0, e) (length_before (get_or s i 0) (split 46 (drop (suc i) s)) (split-some 46 (drop (suc i) s)))
-
-pub count-end : (s : List ℕ) (i : ℕ) → length s ≤ i → length (split 46 (drop i s)) ≡ 1
-unfolding split
-count-end s i h = rw (drop_of_length-le s)
-
--- ---- a turn of the loop that looks at part by part from the left: e is where the part from a place on ends
-
-module _ (s : List ℕ) (from e : ℕ) (q : e ≡ from + run 46 (drop from s)) where
-  pub domain_stop : is_domain_part (take (e - from) (drop from s)) ≡ false → all is_domain_part (split 46 (drop from s)) ≡ false
-  unfolding all
-  domain_stop h =
-      let k : e - from ≡ run 46 (drop from s) = omega arith in
-      ap (all is_domain_part) (split_head 46 (drop from s)) ∙ rw (← k, h)
-
-  pub domain_next : is_domain_part (take (e - from) (drop from s)) ≡ true → e < length s
-      → all is_domain_part (split 46 (drop from s)) ≡ all is_domain_part (split 46 (drop (e + 1) s))
-  unfolding all
-  domain_next h l = ap (all is_domain_part) (split_next 46 s from e q l) ∙ rw h
-
-  pub domain-end : is_domain_part (take (e - from) (drop from s)) ≡ true → length s ≤ e → all is_domain_part (split 46 (drop from s)) ≡ true
-  unfolding all
-  domain-end h l =
-      ap (all is_domain_part) (split-end 46 s from e q l)
-      ∙ and_both (ap is_domain_part (sym (take_all (e - from) (drop from s) (omega (arith, length-drop from s)))) ∙ h) refl
 
 -- ---- letter case is kept, and no matter
 

@@ -4,7 +4,8 @@
 use mathlib.Core.Path.{◌≡◌, refl, sym, ap, ◌∙◌}
 use mathlib.Core.Bool.{Bool, true, false, not, ◌&&◌, ◌||◌, cond}
 use mathlib.Core.List.{List, [], ◌∷◌, ◌++◌}
-use mathlib.Core.Option.{Option, none, some}
+use mathlib.Core.Option.{none, some}
+use Rattle.std.proofs.Common.{Option, None, Some}
 use Prim.Native.Nat.{ℕ, suc, ◌+◌, ◌-◌, ◌*◌, ◌≤◌, ◌<◌}
 use native.Mathlib.Nat.{zero-add}
 use native.Mathlib.Numerals.{add-one}
@@ -26,6 +27,7 @@ use Rattle.mailaddr.specs.Shape.{Address, address_text, closing, escaped, inner,
 use Rattle.mailaddr.specs.Answers.{address_at, from_shape, local_at, shaping}
 use Rattle.mailaddr.specs.declared.shape.Parted.{Parted}
 use Rattle.chars.proofs.Laws.Options.{none-some, some_same}
+use Rattle.std.proofs.lemmas.Option.{none-some as none-Some}
 use Rattle.mailaddr.proofs.Laws.Closing.{closes, escaped_close, escaped_longer, escaped-plain, inner-at, inner-none, length-escaped, more-some, unescape_escape}
 
 -- ---- the bytes of atoms
@@ -77,7 +79,7 @@ atoms-last l h = rw (last-at l) (all-at atom_byte l (length l - 1) 0 (atoms-all 
 pub record Quoted (l : List ℕ) : Type 0 where
   pub inside : List ℕ
   pub opened : l ≡ 34 ∷ inside
-  pub shut : closing inside ≡ some (length inside)
+  pub shut : closing inside ≡ Some (length inside)
 
 -- a local part: a quoted string, or atoms joined by dots
 unfoldable pub IsLocal : Bool → List ℕ → Type 0
@@ -111,14 +113,14 @@ shaped-by q n s a h k =
 shaped-quoted : (s : List ℕ) (a : Address) (o : Option ℕ) → eqb (first s) 34 ≡ true → closing (drop 1 s) ≡ o → quoted_shape s o ≡ some a → Shaped s a
 unfolding quoted_shape first IsLocal
 shaped-quoted [] a o e c h = true_not_false true refl (sym e)
-shaped-quoted (x ∷ t) a none e c h = none-some h
-shaped-quoted (x ∷ t) a (some n) e c h =
+shaped-quoted (x ∷ t) a None e c h = none-some h
+shaped-quoted (x ∷ t) a (Some n) e c h =
     let k = closes t n c in
     shaped-by true (n + 1) (x ∷ t) a h
     (record {
       inside = take n t;
       opened = rw (add-one n, eqb-true x 34 e);
-      shut = k.whole ∙ ap some (sym (length-take-le n t k.inside));
+      shut = k.whole ∙ ap Some (sym (length-take-le n t k.inside));
     })
 
 shaped-plain : (s : List ℕ) (a : Address) → plain_shape s ≡ some a → Shaped s a
@@ -235,7 +237,7 @@ quoted-text u h =
     record {
       inside = escaped u ++ (34 ∷ []);
       opened = refl;
-      shut = escaped_close u h ∙ ap some (sym (length-append (escaped u) (34 ∷ [])));
+      shut = escaped_close u h ∙ ap Some (sym (length-append (escaped u) (34 ∷ [])));
     }
 
 -- such a text is a local part when it is quoted
@@ -290,17 +292,17 @@ length-quoted_quotable u h = length-quoted-plain u (all_weaken is_quotable (λ x
 
 -- ---- what the code asks, in its order
 
-pub quoted-at : (s : List ℕ) (o : Option ℕ) (e : ℕ) → more 1 o ≡ some e → quoted_shape s o ≡ with_local true e s
+pub quoted-at : (s : List ℕ) (o : Option ℕ) (e : ℕ) → more 1 o ≡ Some e → quoted_shape s o ≡ with_local true e s
 unfolding quoted_shape
 quoted-at s o e h =
     let q = more-some 1 o e h in
     let n : q.0 + 1 ≡ e = omega (arith, q.2) in
     rw (q.1, n)
 
-pub quoted_never : (s : List ℕ) (o : Option ℕ) → more 1 o ≡ none → quoted_shape s o ≡ none
+pub quoted_never : (s : List ℕ) (o : Option ℕ) → more 1 o ≡ None → quoted_shape s o ≡ none
 unfolding quoted_shape more
-quoted_never s none h = refl
-quoted_never s (some n) h = none-some (sym h)
+quoted_never s None h = refl
+quoted_never s (Some n) h = absurd (none-Some (1 + n) (sym h))
 
 pub plain_at : (s : List ℕ) (e : ℕ) → e ≡ 0 + run 64 (drop 0 s) → plain_shape s ≡ cond (is_atoms (take e s)) (with_local false e s) none
 unfolding plain_shape

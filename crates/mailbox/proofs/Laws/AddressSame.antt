@@ -4,6 +4,7 @@ use mathlib.Core.Path.{◌≡◌, refl, sym, ap, ◌∙◌}
 use mathlib.Core.Bool.{Bool, true, false, ◌||◌, not}
 use mathlib.Core.List.{List, [], ◌∷◌, ◌++◌, append_assoc, append-nil}
 use mathlib.Core.Option.{some}
+use Rattle.std.proofs.Common.{Some}
 use Prim.Native.Nat.{ℕ, suc}
 use native.Mathlib.Omega.{arith}
 use lib.Dec.{eqb}
@@ -57,7 +58,7 @@ same_text_lem x s n e f g k =
       same = λ h. rw (unescaped-plain x (take k.before s) f, e, f, k.same (sym (needless_plain x s f) ∙ h));
     }
 
-same-closing : (t : List ℕ) (n : ℕ) → closing t ≡ some n → SameQuoted t n
+same-closing : (t : List ℕ) (n : ℕ) → closing t ≡ Some n → SameQuoted t n
 same-closing = by-closing SameQuoted same_close same_escape same_text_lem
 
 same-quoted : (l r : List ℕ) → Quoted l → no_needless (l ++ r) ≡ true → 34 ∷ escaped (unescaped (inner l)) ++ (34 ∷ []) ≡ l

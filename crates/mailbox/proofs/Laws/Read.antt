@@ -4,11 +4,12 @@ use mathlib.Core.Path.{◌≡◌, refl, sym, ap, ◌∙◌}
 use mathlib.Core.Bool.{true, false, ◌||◌, cond}
 use mathlib.Core.List.{List, [], ◌∷◌}
 use mathlib.Core.Option.{Option, none, some}
-use Prim.Native.Nat.{ℕ, ◌≤◌}
+use Rattle.std.proofs.Common.{Option as Opt, None, Some}
+use Prim.Native.Nat.{ℕ}
 use borrow.Author.Tests.{eqb-true}
 use native.Mathlib.Omega.{arith}
 use lib.Dec.{eqb}
-use lib.ListN.{length, take, drop}
+use lib.ListN.{take, drop}
 use Rattle.chars.proofs.Laws.Lists.{by_test, neither, or_cases, true_not_false}
 use Rattle.lexical.specs.Answers.{tokens_by, tokens_of}
 use Rattle.lexical.specs.Tokens.{Token, Word, tokens_at, word}
@@ -56,33 +57,24 @@ end_by start size x s (Special c) a e = refl
 end_by start size x s End a e = refl
 end_by start size x s Bad a e = refl
 
-told-whole : (s new : List ℕ) (a : SpecRead) (start size : ℕ) → told_mailbox (whole_read a start size) new ≡ whole_text start size (told_spec s a new)
-unfolding told_mailbox told_spec tokens_of
-told-whole s new a start size =
-    let x : SpecText = record { local = take a.local new; is_quoted = a.quoted; domain = drop a.local (take a.size new); rest = tokens_of s a.next } in
-    by_test a.found
-    (λ f. by_test (is_end_kind a.next.kind)
-    (λ e. rw (f, e) (sym (end_by start size x s a.next.kind a.next.start a.next.end ∙ rw e)))
-    (λ e. rw (f, e) (sym (end_by start size x s a.next.kind a.next.start a.next.end ∙ rw e))))
-    (λ f. rw f)
-
-mailbox-told : (s new : List ℕ) (a : SpecRead) (start size : ℕ) (o : Option AddrSpec) → told_spec s a new ≡ spec_text o
-    → told_mailbox (whole_read a start size) new ≡ bare_of (whole start size o)
-mailbox-told s new a start size o h = told-whole s new a start size ∙ ap (whole_text start size) h ∙ sym (whole-text start size o)
-
--- what it says of its lengths
-whole_sizes : (s : List ℕ) (a : SpecRead) (start size : ℕ) → a.local ≤ a.size → a.size ≤ length s
-    → ((whole_read a start size).local ≤ (whole_read a start size).size) × ((whole_read a start size).size ≤ length s)
-whole_sizes s a start size p q =
-    by_test a.found
-    (λ f. by_test (is_end_kind a.next.kind) (λ e. rw (f, e) (p, q)) (λ e. rw (f, e) (omega arith, omega arith)))
-    (λ f. rw f (omega arith, omega arith))
-
-pub mailbox-reads : (s new : List ℕ) (a : SpecRead) (start size : ℕ) (o : Option AddrSpec) (r : MailboxRead) → ReadsSpec s (spec_text o) a new
+-- the address that was read, by what stands behind it
+pub mailbox-reads : (s new : List ℕ) (a : SpecRead) (start size : ℕ) (o : Option AddrSpec) (r : Opt MailboxRead) → ReadsSpec s (spec_text o) (Some a) new
     → r ≡ whole_read a start size → ReadsMailbox s (bare_of (whole start size o)) r new
+unfolding told_mailbox told_spec tokens_of
 mailbox-reads s new a start size o r h e =
-    let w = whole_sizes s a start size h.parted (omega (arith, h.low, h.stands.ordered, h.stands.high)) in
-    rw e (record { told = mailbox-told s new a start size o h.told; parted = w.0; high = w.1 })
+    let x : SpecText = record { local = take a.local new; is_quoted = a.quoted; domain = drop a.local (take a.size new); rest = tokens_of s a.next } in
+    let t = whole-text start size o ∙ ap (whole_text start size) (sym h.told) ∙ end_by start size x s a.next.kind a.next.start a.next.end in
+    by_test (is_end_kind a.next.kind)
+    (λ k. let q : r ≡ Some (record { local = a.local; size = a.size; quoted = a.quoted; phrase = record { start = start; size = size } }) = e ∙ rw k in
+    rw q (record { told = sym (t ∙ rw k); sizes = (h.parted, omega (arith, h.low, h.stands.ordered, h.stands.high)) }))
+    (λ k. let q : r ≡ None = e ∙ rw k in
+    rw q (record { told = sym (t ∙ rw k); sizes = tt }))
+
+-- none was read
+pub mailbox-unread : (s new : List ℕ) (start size : ℕ) (o : Option AddrSpec) → told_spec s None new ≡ spec_text o
+    → ReadsMailbox s (bare_of (whole start size o)) None new
+unfolding told_mailbox told_spec
+mailbox-unread s new start size o h = record { told = sym (whole-text start size o ∙ ap (whole_text start size) (sym h)); sizes = tt }
 
 -- ---- the phrase
 

@@ -2,14 +2,14 @@
 -- Assumes nothing.
 use mathlib.Core.Path.{◌≡◌, refl, sym}
 use mathlib.Core.Bool.{Bool, true, false}
-use mathlib.Core.List.{List, ◌∷◌}
+use mathlib.Core.List.{List, [], ◌∷◌}
 use Prim.Native.Nat.{ℕ, ◌+◌, ◌-◌, ◌≤◌, ◌<◌}
 use native.Mathlib.Omega.{arith}
 use borrow.Author.Tests.{eqb-true}
 use lib.ListN.{length, drop, length-take}
 use Rattle.chars.proofs.Laws.Lists.{true_not_false}
 use Rattle.lexical.proofs.Laws.Quoted.{meaning-within}
-use Rattle.lexical.specs.Answers.{Closed, Stands, Whole, atom_word, quoted_word, tokens_by, tokens_of}
+use Rattle.lexical.specs.Answers.{Stands, Whole, atom_word, quoted_word, tokens_by, tokens_of}
 use Rattle.lexical.specs.Tokens.{Word, special, tokens_at, word}
 use Rattle.mailbox_address.specs.Answers.{is_allowed_kind, is_quoted_kind, is_special_kind, is_word_kind, meaning_at, meaning_by}
 use Rattle.lexical.specs.declared.token.Kind.{Kind}
@@ -53,6 +53,19 @@ allowed-word (Special c) q h = h
 allowed-word End q h = h
 allowed-word Bad q h = h
 
+-- no text but a word's
+no-meaning_by : (s : List ℕ) (k : Kind) (a e : ℕ) → (k ≡ Atom → ⊥) → (k ≡ Quoted → ⊥) → meaning_by s k a e ≡ []
+unfolding meaning_by
+no-meaning_by s Atom a e h g = absurd (h refl)
+no-meaning_by s Quoted a e h g = absurd (g refl)
+no-meaning_by s (Special c) a e h g = refl
+no-meaning_by s End a e h g = refl
+no-meaning_by s Bad a e h g = refl
+
+pub no_meaning : (s : List ℕ) (t : Lexeme) → (t.kind ≡ Atom → ⊥) → (t.kind ≡ Quoted → ⊥) → meaning_at s t ≡ []
+unfolding meaning_at
+no_meaning s t h g = no-meaning_by s t.kind t.start t.end h g
+
 -- a text's length
 by_length : (s : List ℕ) (k : Kind) (a e : ℕ) → Whole s k a e → a ≤ e → length (meaning_by s k a e) ≤ e - a
 unfolding meaning_by
@@ -86,6 +99,3 @@ special_step_lem s Bad a e b h w = true_not_false true refl (sym h)
 
 pub special-ahead : (s : List ℕ) (t : Lexeme) (b : ℕ) → is_special_kind t.kind b ≡ true → Stands s t → t.start < t.end
 special-ahead s t b h w = special_step_lem s t.kind t.start t.end b h w.whole
-
-pub quoted-stands : (s : List ℕ) (t : Lexeme) → Stands s t → t.kind ≡ Quoted → Closed s t.start t.end
-quoted-stands s t w h = rw h at w.whole

@@ -3,24 +3,26 @@
 use mathlib.Core.Path.{◌≡◌, refl, sym}
 use mathlib.Core.Bool.{Bool, true, false}
 use mathlib.Core.List.{List, ◌∷◌}
-use mathlib.Core.Option.{none, some}
+use mathlib.Core.Option.{some}
+use Rattle.std.proofs.Common.{Some}
+use Rattle.std.proofs.lemmas.Option.{none-some}
 use Prim.Native.Nat.{ℕ, ◌<◌}
 use borrow.Author.Tests.{eqb-true}
 use lib.Dec.{eqb}
 use Rattle.chars.proofs.Laws.Lists.{by_test, true_not_false}
 use Rattle.lexical.specs.Answers.{Stands, Whole, atom_word, quoted_word, tokens_by, tokens_of}
 use Rattle.lexical.specs.Tokens.{Token, special, tokens_at}
-use Rattle.mailbox_address.specs.Answers.{behind_step, element_step, is_broken, is_live, is_over, is_word_kind, route_by, route_step}
+use Rattle.mailbox_address.specs.Answers.{behind_step, element_step, is_over, is_word_kind, route_by, route_on, route_step}
 use Rattle.mailbox_address.specs.Grammar.{behind_sub_domain, element, optional_route, route}
 use Rattle.mailbox_address.specs.declared.route.RouteState.{RouteState}
-use Rattle.mailbox_address.specs.declared.route.RouteState.TheVariants.{Behind, Broken, Element, Over, Start, SubDomain}
+use Rattle.mailbox_address.specs.declared.route.RouteState.TheVariants.{Behind, Element, Over, Start, SubDomain}
 use Rattle.lexical.specs.declared.token.Kind.{Kind}
 use Rattle.lexical.specs.declared.token.Kind.TheVariants.{Atom, Bad, End, Quoted, Special}
 use Rattle.lexical.specs.declared.token.Lexeme.{Lexeme}
 
 -- where an element may begin: the special says how the route goes on
-from-element : (seen : Bool) (c : ℕ) (ts : List Token) → route (element seen) (special c ∷ ts) ≡ route_by (element_step c seen) ts
-unfolding route route_by
+from-element : (seen : Bool) (c : ℕ) (ts : List Token) → route (element seen) (special c ∷ ts) ≡ route_on (element_step c seen) ts
+unfolding route route_by route_on
 from-element true c ts =
     by_test (eqb c 64)
     (λ e. rw (eqb-true c 64 e))
@@ -30,15 +32,15 @@ from-element false c ts =
     (λ e. rw (eqb-true c 64 e))
     (λ e. by_test (eqb c 44) (λ f. rw (e, f)) (λ f. by_test (eqb c 58) (λ g. rw (e, f, g)) (λ g. rw (e, f, g))))
 
-from-behind : (c : ℕ) (ts : List Token) → route behind_sub_domain (special c ∷ ts) ≡ route_by (behind_step c) ts
-unfolding route route_by
+from-behind : (c : ℕ) (ts : List Token) → route behind_sub_domain (special c ∷ ts) ≡ route_on (behind_step c) ts
+unfolding route route_by route_on
 from-behind c ts =
     by_test (eqb c 46) (λ e. rw e)
     (λ e. by_test (eqb c 44) (λ f. rw (e, f)) (λ f. by_test (eqb c 58) (λ g. rw (e, f, g)) (λ g. rw (e, f, g))))
 
 -- one lexeme of a route that goes on
-by_step : (p : RouteState) (s : List ℕ) (k : Kind) (a e : ℕ) → is_live p ≡ true → route_by p (tokens_by s k a e) ≡ route_by (route_step p k) (tokens_at s e)
-unfolding route_by route tokens_by atom_word quoted_word
+by_step : (p : RouteState) (s : List ℕ) (k : Kind) (a e : ℕ) → is_over p ≡ false → route_by p (tokens_by s k a e) ≡ route_on (route_step p k) (tokens_at s e)
+unfolding route_by route_on route tokens_by atom_word quoted_word
 by_step Start s Atom a e h = refl
 by_step Start s Quoted a e h = refl
 by_step Start s (Special c) a e h = from-element false c (tokens_at s e)
@@ -59,22 +61,12 @@ by_step Behind s Quoted a e h = refl
 by_step Behind s (Special c) a e h = from-behind c (tokens_at s e)
 by_step Behind s End a e h = refl
 by_step Behind s Bad a e h = refl
-by_step Over s k a e h = true_not_false true refl (sym h)
-by_step Broken s k a e h = true_not_false true refl (sym h)
+by_step Over s k a e h = true_not_false true refl h
 
-pub route_steps : (p : RouteState) (s : List ℕ) (t : Lexeme) → is_live p ≡ true
-    → route_by p (tokens_of s t) ≡ route_by (route_step p t.kind) (tokens_at s t.end)
+pub route_steps : (p : RouteState) (s : List ℕ) (t : Lexeme) → is_over p ≡ false
+    → route_by p (tokens_of s t) ≡ route_on (route_step p t.kind) (tokens_at s t.end)
 unfolding tokens_of
 route_steps p s t h = by_step p s t.kind t.start t.end h
-
-pub broken_none : (p : RouteState) (ts : List Token) → is_broken p ≡ true → route_by p ts ≡ none
-unfolding route_by
-broken_none Start ts h = true_not_false true refl (sym h)
-broken_none Element ts h = true_not_false true refl (sym h)
-broken_none SubDomain ts h = true_not_false true refl (sym h)
-broken_none Behind ts h = true_not_false true refl (sym h)
-broken_none Over ts h = true_not_false true refl (sym h)
-broken_none Broken ts h = refl
 
 pub over_some : (p : RouteState) (ts : List Token) → is_over p ≡ true → route_by p ts ≡ some ts
 unfolding route_by
@@ -83,18 +75,17 @@ over_some Element ts h = true_not_false true refl (sym h)
 over_some SubDomain ts h = true_not_false true refl (sym h)
 over_some Behind ts h = true_not_false true refl (sym h)
 over_some Over ts h = refl
-over_some Broken ts h = true_not_false true refl (sym h)
 
--- a lexeme that does not break a route is not empty
-ahead-by : (p : RouteState) (s : List ℕ) (k : Kind) (a e : ℕ) → is_broken (route_step p k) ≡ false → Whole s k a e → a < e
-ahead-by p s Atom a e h w = w
-ahead-by p s Quoted a e h w = true_not_false true refl h
-ahead-by p s (Special c) a e h w = w
-ahead-by p s End a e h w = true_not_false true refl h
-ahead-by p s Bad a e h w = true_not_false true refl h
+-- a lexeme over which a route goes on is not empty
+ahead-by : (p q : RouteState) (s : List ℕ) (k : Kind) (a e : ℕ) → Some q ≡ route_step p k → Whole s k a e → a < e
+ahead-by p q s Atom a e h w = w
+ahead-by p q s Quoted a e h w = absurd (none-some q (sym h))
+ahead-by p q s (Special c) a e h w = w
+ahead-by p q s End a e h w = absurd (none-some q (sym h))
+ahead-by p q s Bad a e h w = absurd (none-some q (sym h))
 
-pub route-ahead : (p : RouteState) (s : List ℕ) (t : Lexeme) → is_broken (route_step p t.kind) ≡ false → Stands s t → t.start < t.end
-route-ahead p s t h w = ahead-by p s t.kind t.start t.end h w.whole
+pub route-ahead : (p q : RouteState) (s : List ℕ) (t : Lexeme) → Some q ≡ route_step p t.kind → Stands s t → t.start < t.end
+route-ahead p q s t h w = ahead-by p q s t.kind t.start t.end h w.whole
 
 -- an optional route: none before a word
 optional_by : (s : List ℕ) (k : Kind) (a e : ℕ) → is_word_kind k ≡ false → optional_route (tokens_by s k a e) ≡ route (element false) (tokens_by s k a e)

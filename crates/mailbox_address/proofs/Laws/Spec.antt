@@ -4,19 +4,19 @@ use mathlib.Core.Path.{◌≡◌, refl, sym, ap, ◌∙◌}
 use mathlib.Core.Bool.{Bool, true, false}
 use mathlib.Core.List.{List, [], ◌++◌}
 use mathlib.Core.Option.{Option, none, some}
+use Rattle.std.proofs.Common.{Some, None}
 use Prim.Native.Nat.{ℕ, ◌≤◌}
 use borrow.Author.Tests.{eq-eqb}
 use native.Mathlib.Omega.{arith}
 use lib.Dec.{eqb}
 use lib.ListN.{length, take, drop, length-append, length-take}
 use lib.Seq.{drop-append_seam, take-append_seam, take-take}
-use Rattle.lexical.specs.Answers.{Stands, tokens_by, tokens_of}
+use Rattle.lexical.specs.Answers.{tokens_by, tokens_of}
 use Rattle.lexical.specs.Tokens.{Token, Word, tokens_at}
-use Rattle.mailbox_address.specs.Answers.{DottedText, ReadsSpec, SpecText, after, domain_text, is_special_kind, no_spec, spec_text, told_dotted, told_route, told_spec}
+use Rattle.mailbox_address.specs.Answers.{DottedText, ReadsSpec, SpecText, after, domain_text, is_special_kind, spec_text, told_dotted, told_route, told_spec}
 use Rattle.mailbox_address.specs.Grammar.{AddrSpec, Dotted, addr_spec, addr_spec_in, allowed, any_quoted, at_domain, behind, closed_by, domain, dotted, going_on, local_part, meaning_of, optional_route, route_addr, route_in, with_domain, with_local}
 use Rattle.mailbox_address.specs.declared.read.DottedRead.{DottedRead}
 use Rattle.mailbox_address.specs.declared.read.SpecRead.{SpecRead}
-use Rattle.mailbox_address.specs.declared.route.RouteRead.{RouteRead}
 use Rattle.lexical.specs.declared.token.Kind.{Kind}
 use Rattle.lexical.specs.declared.token.Kind.TheVariants.{Atom, Bad, End, Quoted, Special}
 use Rattle.lexical.specs.declared.token.Lexeme.{Lexeme}
@@ -86,9 +86,9 @@ domain-parted x q b (some d) = rw (drop-append_seam x (meaning_of d.words))
 -- ---- what the code read
 
 -- an addr-spec that does not stand there
-pub unread : (s new : List ℕ) (t : Lexeme) (r : SpecRead) {o : Option SpecText} → r ≡ no_spec t → Stands s t → o ≡ none → ReadsSpec s o r new
+pub unread : {s new : List ℕ} {o : Option SpecText} → o ≡ none → ReadsSpec s o None new
 unfolding told_spec
-unread s new t r e w h = rw (e, h) (record { told = refl; stands = w; low = omega arith; parted = omega arith })
+unread h = record { told = sym h; stands = tt; low = tt; parted = tt }
 
 -- the text of words that were read
 unfoldable text_in : Option DottedText → List ℕ
@@ -101,45 +101,39 @@ front_is x m new n h =
     let l : length x ≤ n = omega (arith, ap length h, length-append x m, length-take n new) in
     (sym (take-take (length x) n new l) ∙ ap (take (length x)) h ∙ take-append_seam x m, l)
 
-told_no : (s new : List ℕ) (l : DottedRead) → l.found ≡ false → told_dotted s l new ≡ none
-unfolding told_dotted
-told_no s new l f = rw f
-
-told-some : (s new : List ℕ) (l : DottedRead) → l.found ≡ true
-    → told_dotted s l new ≡ some (record { text = take l.size new; is_quoted = l.quoted; rest = tokens_of s l.next })
-unfolding told_dotted
-told-some s new l f = rw f
-
 text_of : (x : List ℕ) (o : Option Dotted) (t : DottedText) → some t ≡ after x false o → (m : List ℕ) × (t.text ≡ x ++ m)
 unfolding after text_in
-text_of x none t h = let z : ◌≡◌ {A = ℕ} 0 1 = cc in absurd (omega arith)
+text_of x none t h = absurd cc
 text_of x (some d) t h = (meaning_of d.words, ap text_in h)
 
-module _ (s new : List ℕ) (l : DottedRead) (ts : List Token) (h : told_dotted s l new ≡ after [] false (dotted (allowed true) ts)) where
-  pub spec_none : l.found ≡ false → spec_text (addr_spec ts) ≡ none
-  spec_none f = addr_spec_is ts ∙ ap from_local (sym h ∙ told_no s new l f)
+pub spec_none : (s new : List ℕ) (ts : List Token) → told_dotted s None new ≡ after [] false (dotted (allowed true) ts) → spec_text (addr_spec ts) ≡ none
+unfolding told_dotted
+spec_none s new ts h = addr_spec_is ts ∙ ap from_local (sym h)
 
-  pub spec_other : l.found ≡ true → is_special_kind l.next.kind 64 ≡ false → spec_text (addr_spec ts) ≡ none
-  spec_other f g = addr_spec_is ts ∙ ap from_local (sym h ∙ told-some s new l f) ∙ rw (behind_other s l.next 64 g)
+module _ (s new : List ℕ) (l : DottedRead) (ts : List Token) (h : told_dotted s (Some l) new ≡ after [] false (dotted (allowed true) ts)) where
+  pub spec_other : is_special_kind l.next.kind 64 ≡ false → spec_text (addr_spec ts) ≡ none
+  unfolding told_dotted
+  spec_other g = addr_spec_is ts ∙ ap from_local (sym h) ∙ rw (behind_other s l.next 64 g)
 
-  pub spec_at : l.found ≡ true → is_special_kind l.next.kind 64 ≡ true
-      → spec_text (addr_spec ts) ≡ domain_text (take l.size new) l.quoted (domain (tokens_at s l.next.end))
-  spec_at f g = addr_spec_is ts ∙ ap from_local (sym h ∙ told-some s new l f) ∙ rw (behind_it s l.next 64 g)
+  pub spec_at : is_special_kind l.next.kind 64 ≡ true → spec_text (addr_spec ts) ≡ domain_text (take l.size new) l.quoted (domain (tokens_at s l.next.end))
+  unfolding told_dotted
+  spec_at g = addr_spec_is ts ∙ ap from_local (sym h) ∙ rw (behind_it s l.next 64 g)
 
-module _ (s new x : List ℕ) (q : Bool) (d : DottedRead) (ts : List Token) (h : told_dotted s d new ≡ after x false (dotted (allowed false) ts)) where
-  pub domain-unread : d.found ≡ false → domain_text x q (domain ts) ≡ none
-  unfolding domain
-  domain-unread f = domain-parted x q false (dotted (allowed false) ts) ∙ ap (parted x q) (sym h ∙ told_no s new d f)
+pub domain-unread : (s new x : List ℕ) (q : Bool) (ts : List Token) → told_dotted s None new ≡ after x false (dotted (allowed false) ts) → domain_text x q (domain ts) ≡ none
+unfolding domain told_dotted
+domain-unread s new x q ts h = domain-parted x q false (dotted (allowed false) ts) ∙ ap (parted x q) (sym h)
 
-  read-text : d.found ≡ true → (m : List ℕ) × (take d.size new ≡ x ++ m)
-  read-text f = text_of x (dotted (allowed false) ts) (record { text = take d.size new; is_quoted = d.quoted; rest = tokens_of s d.next }) (sym (told-some s new d f) ∙ h)
+module _ (s new x : List ℕ) (q : Bool) (d : DottedRead) (ts : List Token) (h : told_dotted s (Some d) new ≡ after x false (dotted (allowed false) ts)) where
+  read-text : (m : List ℕ) × (take d.size new ≡ x ++ m)
+  unfolding told_dotted
+  read-text = text_of x (dotted (allowed false) ts) (record { text = take d.size new; is_quoted = d.quoted; rest = tokens_of s d.next }) h
 
-  pub domain-read : d.found ≡ true → (n : ℕ) → length x ≡ n
-      → (told_spec s (record { found = true; local = n; size = d.size; quoted = q; next = d.next }) new ≡ domain_text x q (domain ts)) × (n ≤ d.size)
-  unfolding domain told_spec
-  domain-read f n e =
-      let p = front_is x (read-text f).0 new d.size (read-text f).1 in (
-        sym (domain-parted x q false (dotted (allowed false) ts) ∙ ap (parted x q) (sym h ∙ told-some s new d f) ∙ rw (e, sym (rw e at p.0))),
+  pub domain-read : (n : ℕ) → length x ≡ n
+      → (told_spec s (Some (record { local = n; size = d.size; quoted = q; next = d.next })) new ≡ domain_text x q (domain ts)) × (n ≤ d.size)
+  unfolding domain told_spec told_dotted
+  domain-read n e =
+      let p = front_is x read-text.0 new d.size read-text.1 in (
+        sym (domain-parted x q false (dotted (allowed false) ts) ∙ ap (parted x q) (sym h) ∙ rw (e, sym (rw e at p.0))),
         omega (arith, p.1),
       )
 
@@ -163,26 +157,19 @@ unfolding spec_text closed_by
 closed-text none = refl
 closed-text (some a) = going_text_lem a (behind 62 a.rest)
 
-module _ (s new : List ℕ) (a : SpecRead) (o : Option AddrSpec) (h : told_spec s a new ≡ spec_text o) where
-  spec_no : a.found ≡ false → told_spec s a new ≡ none
+pub close_none : (s new : List ℕ) (o : Option AddrSpec) → told_spec s None new ≡ spec_text o → spec_text (closed_by o) ≡ none
+unfolding told_spec
+close_none s new o h = closed-text o ∙ ap close_text (sym h)
+
+module _ (s new : List ℕ) (a : SpecRead) (o : Option AddrSpec) (h : told_spec s (Some a) new ≡ spec_text o) where
+  pub close_other : is_special_kind a.next.kind 62 ≡ false → spec_text (closed_by o) ≡ none
   unfolding told_spec
-  spec_no f = rw f
+  close_other g = closed-text o ∙ ap close_text (sym h) ∙ rw (behind_other s a.next 62 g)
 
-  pub close_none : a.found ≡ false → spec_text (closed_by o) ≡ none
-  close_none f = closed-text o ∙ ap close_text (sym h ∙ spec_no f)
-
-  spec_some : a.found ≡ true
-      → told_spec s a new ≡ some (record { local = take a.local new; is_quoted = a.quoted; domain = drop a.local (take a.size new); rest = tokens_of s a.next })
+  pub close_it : is_special_kind a.next.kind 62 ≡ true → (u : Lexeme) → tokens_at s a.next.end ≡ tokens_of s u
+      → told_spec s (Some (record { local = a.local; size = a.size; quoted = a.quoted; next = u })) new ≡ spec_text (closed_by o)
   unfolding told_spec
-  spec_some f = rw f
-
-  pub close_other : a.found ≡ true → is_special_kind a.next.kind 62 ≡ false → spec_text (closed_by o) ≡ none
-  close_other f g = closed-text o ∙ ap close_text (sym h ∙ spec_some f) ∙ rw (behind_other s a.next 62 g)
-
-  pub close_it : a.found ≡ true → is_special_kind a.next.kind 62 ≡ true → (u : Lexeme) → tokens_at s a.next.end ≡ tokens_of s u
-      → told_spec s (record { found = true; local = a.local; size = a.size; quoted = a.quoted; next = u }) new ≡ spec_text (closed_by o)
-  unfolding told_spec
-  close_it f g u l = sym (closed-text o ∙ ap close_text (sym h ∙ spec_some f) ∙ rw (behind_it s a.next 62 g, l))
+  close_it g u l = sym (closed-text o ∙ ap close_text (sym h) ∙ rw (behind_it s a.next 62 g, l))
 
 -- a route-addr: its `<`, its route and its address
 pub route_addr-none : (s : List ℕ) (t : Lexeme) → is_special_kind t.kind 60 ≡ false → spec_text (route_addr (tokens_of s t)) ≡ none
@@ -194,11 +181,11 @@ module _ (s : List ℕ) (t u : Lexeme) (h : is_special_kind t.kind 60 ≡ true) 
   unfolding route_addr route_in
   route_addr_is = rw (behind_it s t 60 h, l)
 
-  pub route-unread : (r : RouteRead) → told_route s r ≡ optional_route (tokens_of s u) → r.found ≡ false → spec_text (route_addr (tokens_of s t)) ≡ none
+  pub route-unread : told_route s None ≡ optional_route (tokens_of s u) → spec_text (route_addr (tokens_of s t)) ≡ none
   unfolding told_route addr_spec_in closed_by spec_text
-  route-unread r e f = rw (route_addr_is, sym e, f)
+  route-unread e = rw (route_addr_is, sym e)
 
-  pub route-read : (r : RouteRead) → told_route s r ≡ optional_route (tokens_of s u) → r.found ≡ true
-      → spec_text (route_addr (tokens_of s t)) ≡ spec_text (closed_by (addr_spec (tokens_of s r.next)))
+  pub route-read : (r : Lexeme) → told_route s (Some r) ≡ optional_route (tokens_of s u)
+      → spec_text (route_addr (tokens_of s t)) ≡ spec_text (closed_by (addr_spec (tokens_of s r)))
   unfolding told_route addr_spec_in
-  route-read r e f = rw (route_addr_is, sym e, f)
+  route-read r e = rw (route_addr_is, sym e)

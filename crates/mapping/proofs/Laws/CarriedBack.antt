@@ -24,7 +24,8 @@ use Rattle.oraddr.specs.View.{empty_record, view}
 use Rattle.oraddr.specs.declared.record.Record.{Record}
 use Rattle.oraddr.proofs.Laws.Canonical.{Parts, parts-canonical}
 use Rattle.oraddr.proofs.Laws.Made.{Made, dd-added, made_dd}
-use Rattle.mailaddr.specs.Answers.{shaped, shaping}
+use Rattle.std.specs.Prelude.{Ok}
+use Rattle.mailaddr.specs.Answers.{shaping}
 use Rattle.mailaddr.specs.Code.{coded}
 use Rattle.mailaddr.specs.Domain.{is_domain}
 use Rattle.mailaddr.specs.Shape.{Address}
@@ -112,7 +113,7 @@ row-path most r h =
 
 -- ---- the carrier of an address
 
-module _ (t : Table) (f : Formed t) (s : List ℕ) (a : Address) (h : shaping s ≡ shaped a) (l : length (coded s) ≤ longest_coded) where
+module _ (t : Table) (f : Formed t) (s : List ℕ) (a : Address) (h : shaping s ≡ Ok a) (l : length (coded s) ≤ longest_coded) where
   abbrev path : List Token
   path = t.gateway.path
 
@@ -172,7 +173,7 @@ module _ (t : Table) (f : Formed t) (s : List ℕ) (a : Address) (h : shaping s 
 
 -- ---- under what a table was read as
 
-module _ (l : TableOutcome) (s old : List ℕ) (t : Table) (a : Address) (g : l ≡ well_formed t) (k : Formed t) (h : shaping s ≡ shaped a) (c : carried_whole t a ≡ true) where
+module _ (l : TableOutcome) (s old : List ℕ) (t : Table) (a : Address) (g : l ≡ well_formed t) (k : Formed t) (h : shaping s ≡ Ok a) (c : carried_whole t a ≡ true) where
   read-carried : to_record_by l s ≡ carrying t.gateway.path s
   unfolding to_record_by to_record record_by
   read-carried = rw (g, h, c)

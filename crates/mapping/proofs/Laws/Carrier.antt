@@ -2,21 +2,24 @@
 -- Assumes nothing.
 use mathlib.Core.Path.{◌≡◌, refl, sym, ap, ◌∙◌}
 use mathlib.Core.Bool.{true, false, not, ◌&&◌, cond}
-use mathlib.Core.List.{List, [], ◌∷◌}
+use mathlib.Core.List.{List, [], ◌∷◌, map}
 use mathlib.Core.Option.{Option, none, some}
 use Prim.Native.Nat.{ℕ, zero, suc, ◌+◌, ◌≤◌, ◌<◌}
-use native.Mathlib.Nat.{le_of_suc-le-suc, not-suc-le-zero}
+use native.Mathlib.Nat.{le_of_suc-le-suc, not-suc-le-zero, zero-add}
 use native.Mathlib.Numerals.{add-one}
 use native.Mathlib.Omega.{arith}
-use borrow.Author.Tests.{eq-eqb, eqb-true, le-ltb, lt-ltb, ltb-true}
+use borrow.Author.Tests.{eq-eqb, eqb-true, le-ltb, lt-ltb}
 use lib.Dec.{eqb}
 use lib.ListN.{length, get_or, take, drop}
 use lib.Seq.{take_all}
+use Rattle.std.specs.Prelude.{Some, None, Ok, Err}
+use Rattle.std.specs.List.{list_all}
+use Rattle.std.proofs.Math.Dec.{eqb-suc-zero}
+use Rattle.std.proofs.lemmas.Option.{none-some, same_Some}
 use Rattle.chars.specs.Lists.{all, non_empty}
 use Rattle.chars.specs.Case.{agree, same_text}
 use Rattle.chars.specs.Write.{front}
 use Rattle.chars.proofs.Laws.Lists.{and_both, and_left, and_right, bool_same, by_test}
-use Rattle.chars.proofs.Laws.Seq.{some_test}
 use Rattle.chars.proofs.Laws.Write.{length_front, take-front}
 use Rattle.oraddr.specs.Add.{Outcome, add_dd, told}
 use Rattle.oraddr.specs.Attributes.{Dd, no_dd}
@@ -25,9 +28,8 @@ use Rattle.oraddr.specs.declared.add.Addition.{Addition}
 use Rattle.mailaddr.specs.Code.{coded, decoded}
 use Rattle.mailaddr.specs.Shape.{Address, longest_address, shape_of}
 use Rattle.mailaddr.specs.Answers.{Decoding, from_shape, shape_answer, shaping}
-use Rattle.mailaddr.specs.declared.code.Decoded.TheVariants.{Length}
-use Rattle.mailaddr.specs.declared.shape.ShapeRead.{ShapeRead}
-use Rattle.mailaddr.specs.declared.shape.ShapeRead.TheVariants.{Address as AddressFound, TooLong, NoShape}
+use Rattle.mailaddr.specs.declared.shape.AddressFault.{AddressFault}
+use Rattle.mailaddr.specs.declared.shape.Parted.{Parted}
 use Rattle.mailaddr.proofs.Laws.Code.{decoded-length}
 use Rattle.table.specs.Table.{Token}
 use Rattle.table.specs.Rows.{between}
@@ -97,31 +99,48 @@ module _ (s ends : List ℕ) (to : ℕ) (h : Ended s ends to) where
   blank_behind k zero (suc m) at e l f = absurd (not-suc-le-zero l)
   blank_behind k (suc n) (suc m) at e l f = blank_behind (suc k) n m at (omega arith) (le_of_suc-le-suc l) (omega arith)
 
--- the levels against those of a path, which has one at least, by how many of them match
-module _ (s ends : List ℕ) (path : List Token) (k : ℕ) (e : k ≡ cond (begins path (tokens_from s ends 0 8)) (0 + length path) 0) where
+-- the levels against those of a path, by how many of them match
+module _ (s ends : List ℕ) (path : List Token) where
   path-most : begins path (tokens_from s ends 0 8) ≡ true → length path ≤ 8
   unfolding tokens_from
   path-most t = begins-length same_text path (tokens_from s ends 0 8) t
 
-  pub levels-most : k ≤ 8
-  levels-most =
-      by_test (begins path (tokens_from s ends 0 8))
-      (λ t. omega (arith, rw t at e, path-most t))
-      (λ t. omega (arith, rw t at e))
-
-  pub levels_other : non_empty path ≡ true → k ≡ 0 → false ≡ has_levels path (level_tokens s ends)
+  pub levels_other : None ≡ cond (begins path (tokens_from s ends 0 8)) (Some (0 + length path)) None → false ≡ has_levels path (level_tokens s ends)
   unfolding has_levels level_tokens
-  levels_other n z =
+  levels_other e =
       by_test (begins path (tokens_from s ends 0 8))
-      (λ t. absurd (omega (arith, rw t at e, ltb-true 0 (length path) (some_test path ∙ n))))
+      (λ t. absurd (none-some (0 + length path) (rw t at e)))
       (λ t. rw t)
 
-  pub levels-rest : Ended s ends 8 → (k ≡ 0 → ⊥) → eqb (get_or ends k 0) (get_or ends 8 0) ≡ has_levels path (level_tokens s ends)
-  unfolding has_levels level_tokens
-  levels-rest h n =
-      by_test (begins path (tokens_from s ends 0 8))
-      (λ t. rw t (sym (blank_behind s ends 8 h 0 8 (length path) k refl (path-most t) (sym (rw t at e)))))
-      (λ t. absurd (n (rw t at e)))
+  module _ (k : ℕ) (e : Some k ≡ cond (begins path (tokens_from s ends 0 8)) (Some (0 + length path)) None) where
+    matched : (begins path (tokens_from s ends 0 8) ≡ true) × (k ≡ length path)
+    matched =
+        by_test (begins path (tokens_from s ends 0 8))
+        (λ t. (t, same_Some k (0 + length path) (rw t at e) ∙ zero-add (length path)))
+        (λ t. absurd (none-some k (sym (rw t at e))))
+
+    pub levels-most : k ≤ 8
+    levels-most = omega (arith, matched.1, path-most matched.0)
+
+    pub levels-rest : Ended s ends 8 → eqb (get_or ends k 0) (get_or ends 8 0) ≡ has_levels path (level_tokens s ends)
+    unfolding has_levels level_tokens
+    levels-rest h =
+        rw matched.0 (sym (blank_behind s ends 8 h 0 8 (length path) k refl (path-most matched.0) (zero-add (length path) ∙ sym matched.1)))
+
+-- ---- the name of a carrier
+
+blank_test : (t : Token) → eqb (length t) 0 ≡ not (non_empty t)
+unfolding non_empty
+blank_test [] = refl
+blank_test (x ∷ t) = eqb-suc-zero (length t)
+
+pub all_blank : {A : Type 0} (f : A → Token) (s : List A) (k : ℕ)
+    → list_all (λ x. eqb (length (f x)) 0) (drop k s) ≡ all (λ t. not (non_empty t)) (drop k (map f s))
+unfolding all
+all_blank f [] zero = refl
+all_blank f [] (suc k) = refl
+all_blank f (x ∷ s) zero = rw (blank_test (f x), all_blank f s 0)
+all_blank f (x ∷ s) (suc k) = all_blank f s k
 
 -- ---- the DDs of a carrier
 
@@ -145,7 +164,7 @@ first-value (d ∷ ds) = refl
 -- ---- the address out of a value
 
 -- what was decoded stands at the front of the buffer
-module _ (s old new : List ℕ) (n : ℕ) (d : Decoding s old (Length n) new) where
+module _ (s old new : List ℕ) (n : ℕ) (d : Decoding s old (Some n) new) where
   pub decoded-front : decoded s ≡ some (take n new)
   unfolding Decoding
   decoded-front = d.1 ∙ ap some (sym (rw (d.2, d.3) (take-front d.0 old)))
@@ -157,21 +176,22 @@ module _ (s old new : List ℕ) (n : ℕ) (d : Decoding s old (Length n) new) wh
       let f : length new ≡ length old = ap length d.3 ∙ length_front d.0 old (omega arith) in
       (omega (arith, d.2), omega (arith, d.2))
 
--- the text, where its shape was read
-unfoldable pub in_read : List ℕ → ShapeRead → Option (List ℕ)
-in_read s (AddressFound p) = some s
-in_read s TooLong = none
-in_read s NoShape = none
+-- the text, where its shape is read
+shape-read : (s : List ℕ) (p : Parted) (o : Option Address) → shape_answer s (Ok p) ≡ from_shape o → cond (is_none o) none (some s) ≡ some s
+unfolding shape_answer from_shape is_none
+shape-read s p none e = absurd cc
+shape-read s p (some a) e = refl
 
-shape-read : (s : List ℕ) (r : ShapeRead) (o : Option Address) → shape_answer s r ≡ from_shape o → cond (is_none o) none (some s) ≡ in_read s r
-unfolding shape_answer from_shape is_none in_read
-shape-read s (AddressFound p) none e = let z : ◌≡◌ {A = ℕ} 0 1 = cc in absurd (omega arith)
-shape-read s (AddressFound p) (some a) e = refl
-shape-read s TooLong none e = let z : ◌≡◌ {A = ℕ} 0 1 = cc in absurd (omega arith)
-shape-read s TooLong (some a) e = let z : ◌≡◌ {A = ℕ} 0 1 = cc in absurd (omega arith)
-shape-read s NoShape none e = refl
-shape-read s NoShape (some a) e = let z : ◌≡◌ {A = ℕ} 0 1 = cc in absurd (omega arith)
+shape-unread : (s : List ℕ) (f : AddressFault) (o : Option Address) → shape_answer s (Err f) ≡ from_shape o → cond (is_none o) none (some s) ≡ none
+unfolding shape_answer from_shape is_none
+shape-unread s f none e = refl
+shape-unread s f (some a) e = absurd cc
 
-pub in_shape_lem : (s : List ℕ) (r : ShapeRead) → length s ≤ longest_address → shape_answer s r ≡ shaping s → in_shape (some s) ≡ in_read s r
-unfolding in_shape shaping
-in_shape_lem s r l e = shape-read s r (shape_of s) (e ∙ rw (le-ltb longest_address (length s) l))
+module _ (s : List ℕ) (l : length s ≤ longest_address) where
+  pub in_shape-some : (p : Parted) → shape_answer s (Ok p) ≡ shaping s → in_shape (some s) ≡ some s
+  unfolding in_shape shaping
+  in_shape-some p e = shape-read s p (shape_of s) (e ∙ rw (le-ltb longest_address (length s) l))
+
+  pub in_shape-none : (f : AddressFault) → shape_answer s (Err f) ≡ shaping s → in_shape (some s) ≡ none
+  unfolding in_shape shaping
+  in_shape-none f e = shape-unread s f (shape_of s) (e ∙ rw (le-ltb longest_address (length s) l))

@@ -37,7 +37,8 @@ use Rattle.ortext_segments.proofs.Laws.Keys.{dot, key-clear}
 use Rattle.ortext_write.proofs.Laws.Left.{flat}
 use Rattle.ortext_name.proofs.Laws.Name.{name_short, short-some, surname-some}
 use Rattle.ortext_write.proofs.Laws.Write.{Ruled, dd_long, dd-short, dd_text, joined_in, joined-map, key_text, local_long, local-short, plain-text, ruled, single-none, single-some, text_class, told_most, unit_text}
-use Rattle.mailaddr.specs.Answers.{from_shape, shaped, shaping}
+use Rattle.std.specs.Prelude.{Ok}
+use Rattle.mailaddr.specs.Answers.{from_shape, shaping}
 use Rattle.mailaddr.specs.Domain.{in_front, is_domain}
 use Rattle.mailaddr.specs.Shape as shape
 use Rattle.mailaddr.specs.Shape.{Address, address_text, is_readable, longest_address, quoted_local, unquoted_local}
@@ -423,7 +424,7 @@ module _ (t : Table) (f : Formed t) (r : Record) (h : canonical_record r ≡ tru
     sent_most = by_most (look by_path t.to_domain (levels (view r))) (found by_path t.to_domain (levels (view r)))
 
   -- It has the accepted shape.
-  pub sent_shaped : shaping (sent_text t r) ≡ shaped (sent_address t r)
+  pub sent_shaped : shaping (sent_text t r) ≡ Ok (sent_address t r)
   unfolding shaping from_shape planned is_quotable
   sent_shaped =
       let u = sent_local t r in

@@ -29,7 +29,8 @@ use Rattle.ortext_segments.specs.Segments.{Segment, read_segments}
 use Rattle.ortext_build.proofs.Laws.Adding.{dds-few, singles_kept, singles_skip, singles_some, then_done, then_is, units-few}
 use Rattle.ortext_read.proofs.Laws.Apply as apply
 use Rattle.ortext_read.proofs.Laws.Apply.{Fits, all-added, complete_lacks, over}
-use Rattle.mailaddr.specs.Answers.{shaped, shaping}
+use Rattle.std.specs.Prelude.{Ok}
+use Rattle.mailaddr.specs.Answers.{shaping}
 use Rattle.mailaddr.specs.Shape.{Address, is_readable, unquoted_local}
 use Rattle.table.specs.Table.{Table, Token}
 use Rattle.table_lookup.specs.Lookup.{resolve}
@@ -398,7 +399,7 @@ good-read refused h = true_not_false false h refl
 good-read again h = true_not_false false h refl
 good-read (read r) h = refl
 
-module _ (t : Table) (s : List ℕ) (a : Address) (f : shaping s ≡ shaped a) (c : carried_whole t a ≡ false) where
+module _ (t : Table) (s : List ℕ) (a : Address) (f : shaping s ≡ Ok a) (c : carried_whole t a ≡ false) where
   is_good_lem : is_good (result_of t a) ≡ true
   is_good_lem =
       let g : is_good (read_well t a) ≡ true = by_test (is_good (read_well t a)) (λ e. e) (λ e. true_not_false (carried_whole t a) (rw (carried_is t a, e)) c) in

@@ -19,15 +19,12 @@ use Rattle.oraddr.specs.Add.{add_dd, add_single, add_unit, outcome, push_dd, pus
 use Rattle.oraddr.specs.Attributes.{no_dd, single_of}
 use Rattle.oraddr.specs.Bounds.{dd_type, dd_value, O, OU, bound_of, is_value, most, rule, single_count}
 use Rattle.oraddr.specs.Canonical.{is_dd, is_unit}
-use Rattle.oraddr.specs.View.{clean, clean_dd, clean_dds, clean_singles, clean_text, clean_units, dd_in_range, dd_value_of, dd_value_view, dd_view, dds_in_range, dds_view, domain_defined_of, empty_record, in_range, kind_of, kind_view, org_unit_of, singles_in_range, singles_view, unit_view, units_in_range, units_view, value_of, value_view, view}
+use Rattle.oraddr.specs.View.{clean, clean_dd, clean_dds, clean_singles, clean_text, clean_units, dd_in_range, dd_view, dds_in_range, dds_view, domain_defined_of, empty_record, held_text, in_range, OrgUnit, org_unit_of, singles_in_range, singles_view, text_in_range, text_of, unit_view, units_in_range, units_view, value_of, value_view, view}
 use Rattle.oraddr.specs.declared.record.Record.{Record}
-use Rattle.oraddr.specs.declared.value.DdType.{DdType}
-use Rattle.oraddr.specs.declared.value.DdValue.{DdValue}
 use Rattle.oraddr.specs.declared.value.DomainDefined.{DomainDefined}
-use Rattle.oraddr.specs.declared.value.OrgUnit.{OrgUnit}
-use Rattle.oraddr.specs.declared.value.Value.{Value}
+use Rattle.oraddr.specs.declared.value.Text.{Text}
 use Rattle.oraddr.proofs.Laws.Text.{length_made, made_clean}
-use Rattle.oraddr.proofs.Laws.View.{outcome_keeps, rule-length, single-view, value-length, view_push_dd, view_push_unit, view-set-single}
+use Rattle.oraddr.proofs.Laws.View.{outcome_keeps, rule-length, single_view, value-length, view_push_dd, view_push_unit, view-set-single}
 
 -- ---- the shape of a record
 
@@ -38,18 +35,16 @@ pub record Shaped (r : Record) : Type 0 where
   pub items : length r.dds.items ≡ most
 
 -- the rooms too
-unfoldable pub value_room : Value → Bool
-value_room v = eqb (length v.bytes) (bound_of O)
-
-unfoldable pub unit_room : OrgUnit → Bool
-unit_room v = eqb (length v.bytes) (bound_of OU)
+unfoldable pub text_room : {n : ℕ} → Text n → Bool
+text_room {n} t = eqb (length t.bytes) n
 
 unfoldable pub dd_room : DomainDefined → Bool
-dd_room d = eqb (length d.kind.bytes) (bound_of dd_type) && eqb (length d.value.bytes) (bound_of dd_value)
+unfolding text_room
+dd_room d = text_room d.kind && text_room d.value
 
 pub record Roomy (r : Record) : Type 0 where
-  pub values : all value_room r.singles.values ≡ true
-  pub names : all unit_room r.units.names ≡ true
+  pub values : all text_room r.singles.values ≡ true
+  pub names : all text_room r.units.names ≡ true
   pub items : all dd_room r.dds.items ≡ true
 
 -- a record as it is made here: the arrays and rooms have their lengths, no length or count is out of range, and all else is 0
@@ -60,7 +55,7 @@ pub record Made (r : Record) : Type 0 where
   pub cleaned : clean r ≡ true
 
 pub made_empty : Made empty_record
-unfolding value_room unit_room dd_room in_range singles_in_range units_in_range dds_in_range clean clean_singles clean_units clean_dds clean_dd clean_text all front value_of org_unit_of domain_defined_of kind_of dd_value_of
+unfolding text_room dd_room in_range singles_in_range units_in_range dds_in_range clean clean_singles clean_units clean_dds clean_dd clean_text all front text_of domain_defined_of
 made_empty = record { shaped = record { values = refl; names = refl; items = refl }; roomy = record { values = refl; names = refl; items = refl }; ranged = refl; cleaned = refl }
 
 -- ---- a record stays as it is made here
@@ -88,8 +83,13 @@ module _ {A : Type 0} where
       and_both (all_set q l n x (and_left (all q l) (all z (drop n l)) e) f)
       (rw (drop-set-lt (n + 1) l n x (omega arith), ← drop-drop 1 n l) (all_drop z 1 (drop n l) (and_right (all q l) (all z (drop n l)) e)))
 
-room_made : (s : List ℕ) (room : ℕ) → length s ≤ room → eqb (length (front s (replicate room 0))) room ≡ true
-room_made s room h = eq-eqb (length (front s (replicate room 0))) room (length_made s room h)
+room_made : {n : ℕ} (s : List ℕ) → length s ≤ n → text_room (text_of n s) ≡ true
+unfolding text_room text_of
+room_made {n} s h = eq-eqb (length (front s (replicate n 0))) n (length_made s n h)
+
+range_made : {n : ℕ} (s : List ℕ) → length s ≤ n → text_in_range (text_of n s) ≡ true
+unfolding text_of
+range_made {n} s h = le-leb (length s) n h
 
 module _ (r : Record) (m : Made r) where
   ranges : (singles_in_range r.singles ≡ true) × (units_in_range r.units ≡ true) × (dds_in_range r.dds ≡ true)
@@ -101,30 +101,30 @@ module _ (r : Record) (m : Made r) where
   cleans = and-three (clean_singles r.singles) (clean_units r.units) (clean_dds r.dds) m.cleaned
 
   set_made : (k : ℕ) (v : List ℕ) → length v ≤ bound_of O → Made (record { singles = set_single r.singles k v; units = r.units; dds = r.dds })
-  unfolding set_single value_of value_room in_range singles_in_range clean clean_singles
+  unfolding set_single in_range singles_in_range clean clean_singles
   set_made k v h = record {
     shaped = record { values = length-set r.singles.values k (value_of v) ∙ m.shaped.values; names = m.shaped.names; items = m.shaped.items };
-    roomy = record { values = all_set value_room r.singles.values k (value_of v) m.roomy.values (room_made v (bound_of O) h); names = m.roomy.names; items = m.roomy.items };
-    ranged = and_both (and_both (all_set (λ w. leb w.len (bound_of O)) r.singles.values k (value_of v) ranges.0 (le-leb (length v) (bound_of O) h)) ranges.1) ranges.2;
-    cleaned = and_both (and_both (all_set (λ w. clean_text w.len w.bytes) r.singles.values k (value_of v) cleans.0 (made_clean v (bound_of O))) cleans.1) cleans.2;
+    roomy = record { values = all_set text_room r.singles.values k (value_of v) m.roomy.values (room_made v h); names = m.roomy.names; items = m.roomy.items };
+    ranged = and_both (and_both (all_set text_in_range r.singles.values k (value_of v) ranges.0 (range_made v h)) ranges.1) ranges.2;
+    cleaned = and_both (and_both (all_set clean_text r.singles.values k (value_of v) cleans.0 (made_clean (bound_of O) v)) cleans.1) cleans.2;
   }
 
   unit_made : (v : List ℕ) → r.units.count < most → length v ≤ bound_of OU → Made (record { singles = r.singles; units = push_unit r.units v; dds = r.dds })
-  unfolding push_unit org_unit_of unit_room in_range units_in_range clean clean_units
+  unfolding push_unit in_range units_in_range clean clean_units
   unit_made v l h = record {
     shaped = record { values = m.shaped.values; names = length-set r.units.names r.units.count (org_unit_of v) ∙ m.shaped.names; items = m.shaped.items };
-    roomy = record { values = m.roomy.values; names = all_set unit_room r.units.names r.units.count (org_unit_of v) m.roomy.names (room_made v (bound_of OU) h); items = m.roomy.items };
-    ranged = and_both (and_both ranges.0 (push_ranged (λ w. leb w.len (bound_of OU)) r.units.names r.units.count (org_unit_of v) l m.shaped.names ranges.1 (le-leb (length v) (bound_of OU) h))) ranges.2;
-    cleaned = and_both (and_both cleans.0 (push_clean (λ w. clean_text w.len w.bytes) (λ w. eqb w.len 0) r.units.names r.units.count (org_unit_of v) cleans.1 (made_clean v (bound_of OU)))) cleans.2;
+    roomy = record { values = m.roomy.values; names = all_set text_room r.units.names r.units.count (org_unit_of v) m.roomy.names (room_made v h); items = m.roomy.items };
+    ranged = and_both (and_both ranges.0 (push_ranged text_in_range r.units.names r.units.count (org_unit_of v) l m.shaped.names ranges.1 (range_made v h))) ranges.2;
+    cleaned = and_both (and_both cleans.0 (push_clean clean_text (λ w. eqb w.len 0) r.units.names r.units.count (org_unit_of v) cleans.1 (made_clean (bound_of OU) v))) cleans.2;
   }
 
   dd_made : (t v : List ℕ) → r.dds.count < most → length t ≤ bound_of dd_type → length v ≤ bound_of dd_value → Made (record { singles = r.singles; units = r.units; dds = push_dd r.dds (domain_defined_of t v) })
-  unfolding push_dd domain_defined_of kind_of dd_value_of dd_room in_range dds_in_range dd_in_range clean clean_dds clean_dd
+  unfolding push_dd domain_defined_of dd_room in_range dds_in_range dd_in_range clean clean_dds clean_dd
   dd_made t v l g h = record {
     shaped = record { values = m.shaped.values; names = m.shaped.names; items = length-set r.dds.items r.dds.count (domain_defined_of t v) ∙ m.shaped.items };
-    roomy = record { values = m.roomy.values; names = m.roomy.names; items = all_set dd_room r.dds.items r.dds.count (domain_defined_of t v) m.roomy.items (and_both (room_made t (bound_of dd_type) g) (room_made v (bound_of dd_value) h)) };
-    ranged = and_both (and_both ranges.0 ranges.1) (push_ranged dd_in_range r.dds.items r.dds.count (domain_defined_of t v) l m.shaped.items ranges.2 (and_both (le-leb (length t) (bound_of dd_type) g) (le-leb (length v) (bound_of dd_value) h)));
-    cleaned = and_both (and_both cleans.0 cleans.1) (push_clean clean_dd (λ i. eqb i.kind.len 0 && eqb i.value.len 0) r.dds.items r.dds.count (domain_defined_of t v) cleans.2 (and_both (made_clean t (bound_of dd_type)) (made_clean v (bound_of dd_value))));
+    roomy = record { values = m.roomy.values; names = m.roomy.names; items = all_set dd_room r.dds.items r.dds.count (domain_defined_of t v) m.roomy.items (and_both (room_made t g) (room_made v h)) };
+    ranged = and_both (and_both ranges.0 ranges.1) (push_ranged dd_in_range r.dds.items r.dds.count (domain_defined_of t v) l m.shaped.items ranges.2 (and_both (range_made t g) (range_made v h)));
+    cleaned = and_both (and_both cleans.0 cleans.1) (push_clean clean_dd (λ i. eqb i.kind.len 0 && eqb i.value.len 0) r.dds.items r.dds.count (domain_defined_of t v) cleans.2 (and_both (made_clean (bound_of dd_type) t) (made_clean (bound_of dd_value) v)));
   }
 
   pub made_single : (k : ℕ) (v : List ℕ) → k < single_count → Made (add_single r k v).record'
@@ -157,8 +157,8 @@ module _ (r : Record) (m : Made r) where
 -- ---- two of them that hold the same attributes are equal
 
 -- a text in its room, the bytes past it 0
-abbrev fit : ℕ → ℕ → List ℕ → Bool
-fit room n b = eqb (length b) room && leb n room && clean_text n b
+abbrev fit : {n : ℕ} → Text n → Bool
+fit t = text_room t && text_in_range t && clean_text t
 
 zeros_path : (s : List ℕ) → all (λ x. eqb x 0) s ≡ true → s ≡ replicate (length s) 0
 unfolding all
@@ -169,24 +169,26 @@ zeros_path (x ∷ s) h =
     (zeros_path s (and_right (eqb x 0) (all (λ x. eqb x 0) s) h))
 
 -- two rooms with the same text, and as much past it
-room_path : (n m : ℕ) (b c : List ℕ) → clean_text n b ≡ true → clean_text m c ≡ true → take n b ≡ take m c → length (drop n b) ≡ length (drop m c) → b ≡ c
+room_path : {n : ℕ} (v w : Text n) → clean_text v ≡ true → clean_text w ≡ true → held_text v ≡ held_text w → length (drop v.len v.bytes) ≡ length (drop w.len w.bytes) → v.bytes ≡ w.bytes
 unfolding clean_text
-room_path n m b c h k e past =
-    sym (take-append-drop n b)
-    ∙ ap₂ (λ s t. s ++ t) e (zeros_path (drop n b) h ∙ ap (λ i. replicate i 0) past ∙ sym (zeros_path (drop m c) k))
-    ∙ take-append-drop m c
+room_path v w h k e past =
+    sym (take-append-drop v.len v.bytes)
+    ∙ ap₂ (λ s t. s ++ t) e (zeros_path (drop v.len v.bytes) h ∙ ap (λ i. replicate i 0) past ∙ sym (zeros_path (drop w.len w.bytes) k))
+    ∙ take-append-drop w.len w.bytes
 
 -- the text tells the length and the whole room
-text_path : (room n m : ℕ) (b c : List ℕ) → fit room n b ≡ true → fit room m c ≡ true → take n b ≡ take m c → (n ≡ m) × (b ≡ c)
-text_path room n m b c h k e =
-    let p = and-three (eqb (length b) room) (leb n room) (clean_text n b) h in
-    let q = and-three (eqb (length c) room) (leb m room) (clean_text m c) k in
-    let lb : length b ≡ room = eqb-true (length b) room p.0 in
-    let lc : length c ≡ room = eqb-true (length c) room q.0 in
-    let ln : n ≤ room = leb-true n room p.1 in
-    let lm : m ≤ room = leb-true m room q.1 in
-    let len : n ≡ m = omega (arith, length-take n b, length-take m c, ap length e) in
-    (len, room_path n m b c p.2 q.2 e (omega (arith, length-drop n b, length-drop m c)))
+text_path : {n : ℕ} (v w : Text n) → fit v ≡ true → fit w ≡ true → held_text v ≡ held_text w → v ≡ w
+unfolding text_room
+text_path {n} v w h k e =
+    let p = and-three (text_room v) (text_in_range v) (clean_text v) h in
+    let q = and-three (text_room w) (text_in_range w) (clean_text w) k in
+    let lb : length v.bytes ≡ n = eqb-true (length v.bytes) n p.0 in
+    let lc : length w.bytes ≡ n = eqb-true (length w.bytes) n q.0 in
+    let ln : v.len ≤ n = leb-true v.len n p.1 in
+    let lm : w.len ≤ n = leb-true w.len n q.1 in
+    let same : v.len ≡ w.len = omega (arith, length-take v.len v.bytes, length-take w.len w.bytes, ap length e) in
+    ap₂ (λ l b. record { len = l; bytes = b }) same
+    (room_path v w p.2 q.2 e (omega (arith, length-drop v.len v.bytes, length-drop w.len w.bytes)))
 
 module _ {A B : Type 0} (f : A → B) where
   -- lists of what f tells apart
@@ -230,40 +232,20 @@ module _ {A : Type 0} where
   all_first p z w n s h k =
       ap (all p) (sym (take-append-drop n s)) ∙ all_append p (take n s) (drop n s) ∙ and_both h (all_weaken z p w (drop n s) k)
 
--- each struct by its text
-struct-path : {A : Type 0} (make : ℕ → List ℕ → A) (room n m : ℕ) (b c : List ℕ) → fit room n b ≡ true → fit room m c ≡ true → take n b ≡ take m c → make n b ≡ make m c
-struct-path make room n m b c h k e = let p = text_path room n m b c h k e in ap₂ make p.0 p.1
-
-value-path : (v w : Value) → fit (bound_of O) v.len v.bytes ≡ true → fit (bound_of O) w.len w.bytes ≡ true → value_view v ≡ value_view w → v ≡ w
-unfolding value_view
-value-path v w h k e = struct-path (λ n b. record { len = n; bytes = b }) (bound_of O) v.len w.len v.bytes w.bytes h k e
-
-unit_path : (v w : OrgUnit) → fit (bound_of OU) v.len v.bytes ≡ true → fit (bound_of OU) w.len w.bytes ≡ true → unit_view v ≡ unit_view w → v ≡ w
-unfolding unit_view
-unit_path v w h k e = struct-path (λ n b. record { len = n; bytes = b }) (bound_of OU) v.len w.len v.bytes w.bytes h k e
-
-kind-path : (v w : DdType) → fit (bound_of dd_type) v.len v.bytes ≡ true → fit (bound_of dd_type) w.len w.bytes ≡ true → kind_view v ≡ kind_view w → v ≡ w
-unfolding kind_view
-kind-path v w h k e = struct-path (λ n b. record { len = n; bytes = b }) (bound_of dd_type) v.len w.len v.bytes w.bytes h k e
-
-dd_value-path : (v w : DdValue) → fit (bound_of dd_value) v.len v.bytes ≡ true → fit (bound_of dd_value) w.len w.bytes ≡ true → dd_value_view v ≡ dd_value_view w → v ≡ w
-unfolding dd_value_view
-dd_value-path v w h k e = struct-path (λ n b. record { len = n; bytes = b }) (bound_of dd_value) v.len w.len v.bytes w.bytes h k e
-
 abbrev dd_fit : DomainDefined → Bool
 dd_fit d = dd_room d && dd_in_range d && clean_dd d
 
 -- a DD's room, range and cleanness, by its two texts
-dd_fit_lem : (d : DomainDefined) → dd_fit d ≡ true → (fit (bound_of dd_type) d.kind.len d.kind.bytes ≡ true) × (fit (bound_of dd_value) d.value.len d.value.bytes ≡ true)
+dd_fit_lem : (d : DomainDefined) → dd_fit d ≡ true → (fit d.kind ≡ true) × (fit d.value ≡ true)
 unfolding dd_room dd_in_range clean_dd
 dd_fit_lem d h =
     let p = and-three (dd_room d) (dd_in_range d) (clean_dd d) h in
-    let a = eqb (length d.kind.bytes) (bound_of dd_type) in
-    let b = eqb (length d.value.bytes) (bound_of dd_value) in
-    let i = leb d.kind.len (bound_of dd_type) in
-    let j = leb d.value.len (bound_of dd_value) in
-    let x = clean_text d.kind.len d.kind.bytes in
-    let y = clean_text d.value.len d.value.bytes in (
+    let a = text_room d.kind in
+    let b = text_room d.value in
+    let i = text_in_range d.kind in
+    let j = text_in_range d.value in
+    let x = clean_text d.kind in
+    let y = clean_text d.value in (
       and_both (and_both (and_left a b p.0) (and_left i j p.1)) (and_left x y p.2),
       and_both (and_both (and_right a b p.0) (and_right i j p.1)) (and_right x y p.2),
     )
@@ -272,8 +254,8 @@ dd-path : (d e : DomainDefined) → dd_fit d ≡ true → dd_fit e ≡ true → 
 unfolding dd_view
 dd-path d e h k v =
     ap₂ (λ a b. record { kind = a; value = b })
-    (kind-path d.kind e.kind (dd_fit_lem d h).0 (dd_fit_lem e k).0 (ap (λ x. x.kind) v))
-    (dd_value-path d.value e.value (dd_fit_lem d h).1 (dd_fit_lem e k).1 (ap (λ x. x.value) v))
+    (text_path d.kind e.kind (dd_fit_lem d h).0 (dd_fit_lem e k).0 (ap (λ x. x.kind) v))
+    (text_path d.value e.value (dd_fit_lem d h).1 (dd_fit_lem e k).1 (ap (λ x. x.value) v))
 
 -- what is empty shows nothing, and is in range
 abbrev empty_unit : OrgUnit → Bool
@@ -283,11 +265,10 @@ abbrev empty_dd : DomainDefined → Bool
 empty_dd i = eqb i.kind.len 0 && eqb i.value.len 0
 
 unit_empty : (w : OrgUnit) → empty_unit w ≡ true → unit_view w ≡ []
-unfolding unit_view
 unit_empty w h = rw (eqb-true w.len 0 h)
 
 dd-empty : (i : DomainDefined) → empty_dd i ≡ true → dd_view i ≡ no_dd
-unfolding dd_view kind_view dd_value_view no_dd
+unfolding dd_view no_dd
 dd-empty i h =
     rw (eqb-true i.kind.len 0 (and_left (eqb i.kind.len 0) (eqb i.value.len 0) h), eqb-true i.value.len 0 (and_right (eqb i.kind.len 0) (eqb i.value.len 0) h))
 
@@ -302,23 +283,21 @@ dd-empty_ranged i h =
     (empty_ranged i.value.len (bound_of dd_value) (and_right (eqb i.kind.len 0) (eqb i.value.len 0) h))
 
 module _ (r : Record) (m : Made r) where
-  values_fit : all (λ v. fit (bound_of O) v.len v.bytes) r.singles.values ≡ true
-  unfolding value_room singles_in_range clean_singles
-  values_fit = all_three value_room (λ v. leb v.len (bound_of O)) (λ v. clean_text v.len v.bytes) r.singles.values m.roomy.values (ranges r m).0 (cleans r m).0
+  values_fit : all fit r.singles.values ≡ true
+  unfolding singles_in_range clean_singles
+  values_fit = all_three text_room text_in_range clean_text r.singles.values m.roomy.values (ranges r m).0 (cleans r m).0
 
   -- a count in range, all in order, and those past the count empty
-  units_fit : (r.units.count ≤ most) × (all (λ v. fit (bound_of OU) v.len v.bytes) r.units.names ≡ true) × (all empty_unit (drop r.units.count r.units.names) ≡ true)
-  unfolding unit_room units_in_range clean_units
+  units_fit : (r.units.count ≤ most) × (all fit r.units.names ≡ true) × (all empty_unit (drop r.units.count r.units.names) ≡ true)
+  unfolding units_in_range clean_units
   units_fit =
       let n = r.units.count in
       let l = r.units.names in
-      let range : OrgUnit → Bool = λ v. leb v.len (bound_of OU) in
-      let tidy : OrgUnit → Bool = λ v. clean_text v.len v.bytes in
-      let past : all empty_unit (drop n l) ≡ true = and_right (all tidy l) (all empty_unit (drop n l)) (cleans r m).1 in (
-        leb-true n most (and_left (leb n most) (all range (take n l)) (ranges r m).1),
-        all_three unit_room range tidy l m.roomy.names
-            (all_first range empty_unit (λ v h. empty_ranged v.len (bound_of OU) h) n l (and_right (leb n most) (all range (take n l)) (ranges r m).1) past)
-            (and_left (all tidy l) (all empty_unit (drop n l)) (cleans r m).1),
+      let past : all empty_unit (drop n l) ≡ true = and_right (all clean_text l) (all empty_unit (drop n l)) (cleans r m).1 in (
+        leb-true n most (and_left (leb n most) (all text_in_range (take n l)) (ranges r m).1),
+        all_three text_room text_in_range clean_text l m.roomy.names
+            (all_first text_in_range empty_unit (λ v h. empty_ranged v.len (bound_of OU) h) n l (and_right (leb n most) (all text_in_range (take n l)) (ranges r m).1) past)
+            (and_left (all clean_text l) (all empty_unit (drop n l)) (cleans r m).1),
         past,
       )
 
@@ -340,7 +319,7 @@ module _ (r s : Record) (m : Made r) (n : Made s) where
   unfolding singles_view
   singles_path e =
       ap (λ l. record { values = l })
-      (map-path value_view (λ v. fit (bound_of O) v.len v.bytes) value-path r.singles.values s.singles.values (values_fit r m) (values_fit s n) e)
+      (map-path value_view fit text_path r.singles.values s.singles.values (values_fit r m) (values_fit s n) e)
 
   units-path : units_view r.units ≡ units_view s.units → r.units ≡ s.units
   unfolding units_view
@@ -349,7 +328,7 @@ module _ (r s : Record) (m : Made r) (n : Made s) where
       let q = units_fit s n in
       let f = first-path unit_view empty_unit [] unit_empty r.units.names s.units.names r.units.count s.units.count m.shaped.names n.shaped.names p.0 q.0 p.2 q.2 e in
       ap₂ (λ c l. record { count = c; names = l }) f.0
-      (map-path unit_view (λ v. fit (bound_of OU) v.len v.bytes) unit_path r.units.names s.units.names p.1 q.1 f.1)
+      (map-path unit_view fit text_path r.units.names s.units.names p.1 q.1 f.1)
 
   dds-path : dds_view r.dds ≡ dds_view s.dds → r.dds ≡ s.dds
   unfolding dds_view
@@ -374,13 +353,14 @@ all_default p [] k d h e = e
 all_default p (x ∷ s) zero d h e = and_left (p x) (all p s) h
 all_default p (x ∷ s) (suc k) d h e = all_default p s k d (and_right (p x) (all p s) h) e
 
-fit_length : (room n : ℕ) (b : List ℕ) → fit room n b ≡ true → n ≡ length (take n b)
-fit_length room n b h =
-    let p = and-three (eqb (length b) room) (leb n room) (clean_text n b) h in
-    omega (arith, length-take n b, eqb-true (length b) room p.0, leb-true n room p.1)
+fit_length : {n : ℕ} (v : Text n) → fit v ≡ true → v.len ≡ length (held_text v)
+unfolding text_room
+fit_length {n} v h =
+    let p = and-three (text_room v) (text_in_range v) (clean_text v) h in
+    omega (arith, length-take v.len v.bytes, eqb-true (length v.bytes) n p.0, leb-true v.len n p.1)
 
-fit_empty : fit (bound_of O) (value_of []).len (value_of []).bytes ≡ true
-unfolding value_of front clean_text all
+fit_empty : fit (value_of []) ≡ true
+unfolding text_of text_room front clean_text all
 fit_empty = refl
 
 count-length : {A B : Type 0} (f : A → B) (l : List A) (n : ℕ) → n ≤ most → length l ≡ most → n ≡ length (take n (map f l))
@@ -389,11 +369,11 @@ count-length f l n h e = omega (arith, length-take n (map f l), length-map l f)
 module _ (r : Record) (m : Made r) where
   -- a length and a count are those of what they hold
   pub single-length : (k : ℕ) → (get_or r.singles.values k (value_of [])).len ≡ length (single_of (view r) k)
-  unfolding single_of view singles_view value_view
+  unfolding single_of view singles_view
   single-length k =
       let v = get_or r.singles.values k (value_of []) in
-      fit_length (bound_of O) v.len v.bytes (all_default (λ w. fit (bound_of O) w.len w.bytes) r.singles.values k (value_of []) (values_fit r m) fit_empty)
-      ∙ ap length (sym (single-view r.singles k))
+      fit_length v (all_default fit r.singles.values k (value_of []) (values_fit r m) fit_empty)
+      ∙ ap length (sym (single_view r.singles k))
 
   pub unit_count : r.units.count ≡ length (view r).units
   unfolding view units_view

@@ -1,21 +1,18 @@
--- Laws of a text in its room: a struct made of a text shows that text, has its length, and is clean past it. Said once over
--- the room, then of each struct.
+-- Laws of a text in its room: a struct made of a text shows that text, has its length, and is clean past it.
 -- Assumes nothing.
 use mathlib.Core.Path.{◌≡◌, refl, ◌∙◌}
 use Prim.Native.Nat.{ℕ, zero, suc, ◌≤◌}
-use mathlib.Core.Bool.{true, false, and-true}
-use mathlib.Core.List.{List, [], ◌∷◌}
+use mathlib.Core.Bool.{true}
+use mathlib.Core.List.{List}
 use native.Mathlib.Omega.{arith}
 use lib.Dec.{eqb}
-use lib.ListN.{length, get_or, take, replicate, length-replicate}
+use lib.ListN.{length, take, replicate, length-replicate}
 use Rattle.chars.specs.Lists.{all}
-use Rattle.chars.specs.Case.{agree, equal_text}
 use Rattle.chars.specs.Write.{Wrote, front}
 use Rattle.chars.proofs.Laws.Lists.{all_drop}
-use Rattle.chars.proofs.Laws.Case.{agree_lengths_differ}
 use Rattle.chars.proofs.Laws.Write.{length_front, take-front, drop-front, wrote-front}
-use Rattle.oraddr.specs.Bounds.{bound_of, is_space, O, OU, dd_type, dd_value}
-use Rattle.oraddr.specs.View.{clean_text, dd_value_of, dd_value_view, dd_view, domain_defined_of, kind_of, kind_view, org_unit_of, unit_view, value_of, value_view}
+use Rattle.oraddr.specs.Bounds.{bound_of, dd_type, dd_value}
+use Rattle.oraddr.specs.View.{clean_text, dd_view, domain_defined_of, held_text, text_of}
 
 -- ---- over the room
 
@@ -31,9 +28,9 @@ unfolding all
 zeros zero = refl
 zeros (suc n) = zeros n
 
-pub made_clean : (s : List ℕ) (room : ℕ) → clean_text (length s) (front s (replicate room 0)) ≡ true
-unfolding clean_text
-made_clean s room = rw (drop-front s (replicate room 0)) (all_drop (λ x. eqb x 0) (length s) (replicate room 0) (zeros room))
+pub made_clean : (n : ℕ) (s : List ℕ) → clean_text (text_of n s) ≡ true
+unfolding clean_text text_of
+made_clean n s = rw (drop-front s (replicate n 0)) (all_drop (λ x. eqb x 0) (length s) (replicate n 0) (zeros n))
 
 -- what `put` writes into a room of zeros, and the length that it answers
 pub length_of : {o s new : List ℕ} {n : ℕ} → Wrote o 0 s n new → n ≡ length s
@@ -42,36 +39,12 @@ length_of w = omega (arith, w.moved)
 pub made_of : {s new : List ℕ} {n : ℕ} (room : ℕ) → length s ≤ room → Wrote (replicate room 0) 0 s n new → new ≡ front s (replicate room 0)
 made_of room h w = wrote-front w (simp length-replicate h)
 
--- ---- one space
-
-pub one_space : (s : List ℕ) → length s ≡ 1 → is_space s ≡ eqb (get_or s 0 0) 32
-unfolding is_space equal_text agree
-one_space [] h = absurd (omega arith)
-one_space (x ∷ []) h = and-true (eqb x 32)
-one_space (x ∷ y ∷ s) h = absurd (omega arith)
-
-pub not_space : (s : List ℕ) → (length s ≡ 1 → ⊥) → is_space s ≡ false
-unfolding is_space equal_text
-not_space s h = agree_lengths_differ eqb s (32 ∷ []) h
-
 -- ---- of the structs
 
-pub view-value : (s : List ℕ) → value_view (value_of s) ≡ s
-unfolding value_view value_of
-view-value s = made s (bound_of O)
-
-pub view_unit : (s : List ℕ) → unit_view (org_unit_of s) ≡ s
-unfolding unit_view org_unit_of
-view_unit s = made s (bound_of OU)
-
-pub view-kind : (s : List ℕ) → kind_view (kind_of s) ≡ s
-unfolding kind_view kind_of
-view-kind s = made s (bound_of dd_type)
-
-pub view-dd_value : (s : List ℕ) → dd_value_view (dd_value_of s) ≡ s
-unfolding dd_value_view dd_value_of
-view-dd_value s = made s (bound_of dd_value)
+pub view_text : (n : ℕ) (s : List ℕ) → held_text (text_of n s) ≡ s
+unfolding text_of
+view_text n s = made s n
 
 pub view-dd : (t s : List ℕ) → dd_view (domain_defined_of t s) ≡ record { kind = t; value = s }
 unfolding dd_view domain_defined_of
-view-dd t s = rw (view-kind t, view-dd_value s)
+view-dd t s = rw (view_text (bound_of dd_type) t, view_text (bound_of dd_value) s)

@@ -19,16 +19,16 @@ use Rattle.chars.proofs.Laws.Lists.{all-at, and_left, and_right, by_test, or_cas
 use Rattle.chars.proofs.Laws.Case.{equal-path}
 use Rattle.chars.proofs.Laws.Seq.{map-set}
 use Rattle.oraddr.specs.Attributes.{Attributes, levels, single_of, unit_of}
-use Rattle.oraddr.specs.Bounds.{ADMD, C, c_letters, O, bounds, bound_of, is_country, is_space, is_value, level_count, most, own_levels, rule, single_count}
+use Rattle.oraddr.specs.Bounds.{ADMD, C, c_letters, O, OU, bounds, bound_of, is_country, is_space, is_value, level_count, most, own_levels, rule, single_count}
 use Rattle.oraddr.specs.Add.{outcome, place_of, push_dd, push_unit, set_single}
 use Rattle.oraddr.specs.declared.add.Attribute as attribute
 use Rattle.oraddr.specs.declared.add.Attribute.{Attribute}
-use Rattle.oraddr.specs.View.{dd_value_of, dd_view, dds_view, domain_defined_of, empty_record, kind_of, org_unit_of, singles_view, unit_view, units_view, value_of, value_view, view}
+use Rattle.oraddr.specs.View.{dd_view, dds_view, domain_defined_of, empty_record, org_unit_of, singles_view, text_of, unit_view, units_view, value_of, value_view, view}
 use Rattle.oraddr.specs.declared.record.Record.{Record}
 use Rattle.oraddr.specs.declared.record.Singles.{Singles}
 use Rattle.oraddr.specs.declared.record.Units.{Units}
 use Rattle.oraddr.specs.declared.record.Dds.{Dds}
-use Rattle.oraddr.proofs.Laws.Text.{view-dd, view_unit, view-value}
+use Rattle.oraddr.proofs.Laws.Text.{view-dd, view_text}
 
 -- ---- what a rule says of the length
 
@@ -116,7 +116,7 @@ module _ (a : Attributes) (k : ℕ) (l : length a.single ≡ single_count) where
 -- ---- the empty record
 
 pub view-empty : view empty_record ≡ record { single = replicate single_count []; units = []; dds = [] }
-unfolding view singles_view units_view dds_view value_view value_of org_unit_of domain_defined_of kind_of dd_value_of front
+unfolding view singles_view units_view dds_view dd_view text_of domain_defined_of front
 view-empty = refl
 
 -- ---- the attributes after an addition
@@ -125,12 +125,12 @@ pub view-set-single : (r : Record) (k : ℕ) (v : List ℕ)
     → view (record { singles = set_single r.singles k v; units = r.units; dds = r.dds })
     ≡ record { single = set (view r).single k v; units = (view r).units; dds = (view r).dds }
 unfolding view singles_view set_single
-view-set-single r k v = rw (map-set value_view r.singles.values k (value_of v), view-value v)
+view-set-single r k v = rw (map-set value_view r.singles.values k (value_of v), view_text (bound_of O) v)
 
 -- what stands at a place of the attributes that a record has once, past the last too
-pub single-view : (s : Singles) (k : ℕ) → get_or (singles_view s) k [] ≡ value_view (get_or s.values k (value_of []))
-unfolding singles_view value_of value_view front
-single-view s k = get_or-map value_view s.values k (value_of [])
+pub single_view : (s : Singles) (k : ℕ) → get_or (singles_view s) k [] ≡ value_view (get_or s.values k (value_of []))
+unfolding singles_view text_of front
+single_view s k = get_or-map value_view s.values k (value_of [])
 
 -- what is pushed behind the first n
 view_push : {A B : Type 0} (f : A → B) (l : List A) (n : ℕ) (x : A) → n < length l → take (n + 1) (map f (set l n x)) ≡ take n (map f l) ++ (f x ∷ [])
@@ -138,7 +138,7 @@ view_push f l n x h = rw (add-one, map-set f l n x) (take-suc-set (map f l) n (f
 
 pub view_push_unit : (u : Units) (v : List ℕ) → u.count < length u.names → units_view (push_unit u v) ≡ units_view u ++ (v ∷ [])
 unfolding units_view push_unit
-view_push_unit u v h = view_push unit_view u.names u.count (org_unit_of v) h ∙ rw (view_unit v)
+view_push_unit u v h = view_push unit_view u.names u.count (org_unit_of v) h ∙ rw (view_text (bound_of OU) v)
 
 pub view_push_dd : (d : Dds) (t v : List ℕ) → d.count < length d.items → dds_view (push_dd d (domain_defined_of t v)) ≡ dds_view d ++ (record { kind = t; value = v } ∷ [])
 unfolding dds_view push_dd

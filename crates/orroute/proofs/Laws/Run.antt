@@ -1,5 +1,6 @@
 -- Laws of the program's loop: what a call of the router comes to when what it left has been moved, and calls one after the other.
 -- Assumes nothing.
+use Rattle.std.proofs.Common.{IfOk, Result, Ok, Err}
 use mathlib.Core.Path.{◌≡◌, refl, sym, ap, subst, ◌∙◌}
 use mathlib.Core.Bool.{Bool, true, false, cond}
 use mathlib.Core.List.{List, [], ◌++◌, append_assoc}
@@ -17,7 +18,8 @@ use Rattle.table_load.specs.Load.{FormedBy}
 use Rattle.router.specs.Run.{Routing, Waits, due}
 use Rattle.router.specs.declared.run.Routed.{Routed}
 use Rattle.router.proofs.Laws.Calls.{call_moves}
-use Rattle.orroute.specs.Run.{Advancing, Answered, Answering, Owed, Paid, Stepping, stopped}
+use Rattle.orroute.specs.Run.{Advancing, Answered, Answering, Owed, Paid, Stepping}
+use Rattle.orroute.specs.declared.Failure.{Failure}
 use Rattle.orroute.specs.declared.Waiting.{Waiting}
 use Rattle.orroute.proofs.Laws.Moved.{moved_front}
 
@@ -57,37 +59,19 @@ read_behind d p rest size n h k =
     ∙ take-append-add (take size d) (p ++ rest) n
     ∙ ap (λ (t : List ℕ). take size d ++ t) (take-append-le n p rest k)
 
--- the answers to both together
-pub stepped : {l : TableOutcome} {over : Bool} {r : Waiting} {s' : List ℕ} (d p rest : List ℕ) (size n : ℕ) → size ≤ length d → n ≤ length p
-    → Answering l over (take (size + n) (take size d ++ (p ++ rest))) (eqb n 0) r s' → Stepping l over (take size d) r s'
-stepped {l} {over} {r} {s'} d p rest size n h k a = record {
+-- the answers to both together, unless a write failed
+pub stepped : (l : TableOutcome) (over : Bool) (d p rest : List ℕ) (size n : ℕ) → size ≤ length d → n ≤ length p
+    → (r : Result Waiting Failure) (left : Waiting → List ℕ)
+    → IfOk r (λ w. Answering l over (take (size + n) (take size d ++ (p ++ rest))) (eqb n 0) w (left w))
+    → IfOk r (λ w. Stepping l over (take size d) w (left w))
+stepped l over d p rest size n h k (Err e) left a = a
+stepped l over d p rest size n h k (Ok w) left a = record {
   short = a.short;
-  arrived = λ e. record {
+  arrived = record {
     chunk = take n p;
     last = eqb n 0;
     some = λ z. eq-eqb n 0 (sym (length-take-le n p k) ∙ ap length z);
     none = λ z. ap (λ (i : ℕ). take i p) (eqb-true n 0 z);
-    answered = subst (λ (q : List ℕ). Answered l over q (eqb n 0) r s') (read_behind d p rest size n h k) (a.answered e);
+    answered = subst (λ (q : List ℕ). Answered l over q (eqb n 0) w (left w)) (read_behind d p rest size n h k) a.answered;
   };
 }
-
--- a write or a read failed
-module _ {r : Waiting} (e : r ≡ stopped) where
-  short-stopped : r.size ≤ longest_line
-  short-stopped = omega (arith, ap (λ (w : Waiting). w.size) e)
-
-  failed_stopped : {X : Type 0} → r.failed ≡ false → X
-  failed_stopped f = true_not_false r.failed (ap (λ (w : Waiting). w.failed) e) f
-
-  pub answer-stopped : {l : TableOutcome} {over last : Bool} {s s' : List ℕ} → Answering l over s last r s'
-  answer-stopped = record { short = short-stopped; answered = failed_stopped }
-
-  pub step_stopped : {l : TableOutcome} {over : Bool} {s s' : List ℕ} → Stepping l over s r s'
-  step_stopped = record { short = short-stopped; arrived = failed_stopped }
-
--- a turn of a loop that goes on while something is taken
-pub turn_less : (t n : ℕ) (b : Bool) → t ≤ n → b ≡ true → cond (ltb 0 t) (n - t + 1) 0 < cond b (n + 1) 0
-turn_less t n b k e =
-    rw e (by_test (ltb 0 t)
-    (λ h. rw h (omega (arith, ltb-true 0 t h)))
-    (λ h. rw h (omega arith)))

@@ -3,8 +3,8 @@
 use mathlib.Core.Path.{sym}
 use native.Mathlib.Omega.{arith}
 use lib.Seq.{length-take-le}
-use Rattle.table_load.specs.Load.{load_answer}
-use Rattle.table_load.proofs.Laws.Ready.{ready-formed}
+use Rattle.table_load.specs.Tables.{table_answer}
+use Rattle.table_load.proofs.Laws.Ready.{read_formed}
 use Rattle.orroute.proofs.Laws.Run.{advanced}
 use Rattle.orroute.proofs.advance.Goals as goal
 
@@ -26,7 +26,6 @@ pub returns : goal.returns
 returns c =
     let r = c.route-done in
     let a = c.args in
-    let l = load_answer a.text.now a.to_path.now a.to_domain.now a.read in
-    let formed = ready-formed a.text.now a.to_path.now a.to_domain.now a.read c.requires.ready in
+    let l = table_answer a.read.now in
     let shift = c.shift in
-    advanced {l = l} a.input.now shift.new.buf a.size formed c.requires.size_in_bounds r.ensures c.requires.answer_room_in_bounds shift.ensures
+    advanced {l = l} a.input.now shift.new.buf a.size (read_formed a.read.now) c.requires.size_in_bounds r.ensures c.requires.answer_room_in_bounds shift.ensures

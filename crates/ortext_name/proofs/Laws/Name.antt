@@ -6,7 +6,7 @@ use Prim.Native.Nat.{ℕ, zero, suc, ◌+◌, ◌-◌, ◌*◌, ◌≤◌, ◌<�
 use native.Mathlib.Nat.{le_of_suc-le-suc}
 use native.Mathlib.Numerals.{add-one}
 use native.Mathlib.Omega.{arith}
-use mathlib.Core.Bool.{Bool, true, false, not, ◌&&◌, ◌||◌, and-false, or-true}
+use mathlib.Core.Bool.{Bool, true, false, not, ◌&&◌, ◌||◌, and-false, and-true, or-true}
 use mathlib.Core.List.{List, [], ◌∷◌, ◌++◌, append_assoc}
 use mathlib.Core.Option.{Option, none, some}
 use borrow.Author.Tests.{eqb-true, eqb-false, ne_eqb, leb-true, le-leb, ltb-true, ltb-false, lt-ltb, le-ltb, not-true}
@@ -17,9 +17,17 @@ use Rattle.chars.specs.Lists.{all, first, member, non_empty}
 use Rattle.chars.specs.Class.{between, is_letter}
 use Rattle.chars.specs.Parts.{run}
 use Rattle.chars.proofs.Laws.Lists.{all_append, and_left, and_right, by_test, or_cases, true_not_false}
-use Rattle.chars.proofs.Laws.Seq.{some-append, some-length}
+use Rattle.chars.proofs.Laws.Seq.{no_length, some-append, some-length}
 use Rattle.ortext_name.specs.Name.{Name, after_given, after_initials, dot_allowed, dotted, given_of, given_short, given_text, has_given, initials_of, is_short, name_text, read_name}
 use Rattle.ortext_name.specs.Places.{given_end, letters_at, name_at}
+
+-- ---- two tests, the second asked where the first holds
+
+pub asked_both : {a b v p q : Bool} → a ≡ p → b ≡ q → a ≡ true → v ≡ b → v ≡ (p && q)
+asked_both a b t v = rw (sym a ∙ t) (v ∙ b)
+
+pub asked_first : {a v p : Bool} (q : Bool) → a ≡ p → a ≡ false → v ≡ a → v ≡ (p && q)
+asked_first q a t v = rw (sym a ∙ t) (v ∙ t)
 
 -- ---- the first dot
 
@@ -57,6 +65,32 @@ run-append (x ∷ g) t h =
     by_test (eqb x 46)
     (λ e. true_not_false true refl (rw (dot_is x, e) at h))
     (λ e. rw e (ap suc (run-append g t (rw (dot_is x, e) at h))))
+
+-- what the place of the first dot says
+module _ (s : List ℕ) (dot : ℕ) (e : dot ≡ 0 + run 46 s) where
+  pub dot-none : length s ≤ dot → member 46 s ≡ false
+  dot-none h = member-run s ∙ le-ltb (run 46 s) (length s) (omega (arith, e))
+
+  pub dot-some : dot < length s → member 46 s ≡ true
+  dot-some h = member-run s ∙ lt-ltb (run 46 s) (length s) (omega (arith, e))
+
+  pub dot-early : dot < length s → dot < 2 → member 46 (take 2 s) ≡ true
+  dot-early h l = member-take 2 s ∙ lt-ltb (run 46 s) (length (take 2 s)) (rw length-take (omega (arith, e)))
+
+  pub dot-late : 2 ≤ dot → member 46 (take 2 s) ≡ false
+  dot-late h = member-take 2 s ∙ le-ltb (run 46 s) (length (take 2 s)) (rw length-take (omega (arith, e)))
+
+-- what the test of a length says
+pub is_bare : (x : List ℕ) {r : Bool} → r ≡ eqb (length x) 0 → r ≡ true → x ≡ []
+is_bare x e f = let h = eqb-true (length x) 0 (sym e ∙ f) in no_length x (omega arith)
+
+pub is_full : (x : List ℕ) {r : Bool} → r ≡ eqb (length x) 0 → r ≡ false → 0 < length x
+is_full x e f = let h = eqb-false (length x) 0 (sym e ∙ f) in omega arith
+
+pub some-full : (x : List ℕ) {r : Bool} → r ≡ eqb (length x) 0 → not r ≡ non_empty x
+unfolding non_empty
+some-full [] e = ap not e
+some-full (x ∷ s) e = ap not e ∙ rw (ne_eqb (suc (length s)) 0 (λ f. omega arith))
 
 -- ---- the pieces of a text
 
@@ -212,6 +246,12 @@ name_short n gq h =
     (λ e. no_given n.initials n.surname q.letters (λ f. dots_alone n.surname (rw (e, f) at q.dots))) in
     let i = initials-back n.initials n.surname q.letters (dots_front n q.dots) in
     rw (append_assoc, g.0, g.1, i.0, i.1, q.surname)
+
+-- with no generation, one test fewer
+pub short_tests : (n : Name)
+    → is_short n [] ≡ (non_empty n.surname && all is_letter n.initials && given_short n.given && dot_allowed n && not (eqb (first (name_text n)) 47))
+unfolding is_short non_empty
+short_tests n = rw and-true
 
 pub short_no_slash : (n : Name) (gq : List ℕ) → is_short n gq ≡ true → first (name_text n) ≡ 47 → ⊥
 short_no_slash n gq h = eqb-false (first (name_text n)) 47 (short_is n gq h).slash

@@ -12,7 +12,7 @@ use Rattle.chars.proofs.Laws.Lists.{by_test}
 use Rattle.oraddr.specs.Bounds.{most}
 use Rattle.ortext_segments.specs.Keys.{dd_key, ou_key}
 use Rattle.ortext_segments.specs.Segments.{unknown}
-use Rattle.ortext_segments.specs.declared.scan.Found.{Found}
+use Rattle.ortext_segments.specs.declared.scan.Segment.{Segment as Found}
 use Rattle.ortext_named.specs.Named.{AllSound, Sound, is_absent, no_span, nothing, place_at, spoiled, with_dd, with_found, with_once, with_unit}
 use Rattle.ortext_named.specs.declared.named.DdPlaces.{DdPlaces}
 use Rattle.ortext_named.specs.declared.named.Named.{Named}

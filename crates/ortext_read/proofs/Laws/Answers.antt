@@ -9,16 +9,16 @@ use native.Mathlib.Omega.{arith}
 use borrow.Author.Tests.{le-ltb}
 use lib.ListN.{length}
 use lib.Dec.{eqb}
-use Rattle.chars.proofs.Laws.Lists.{and_both, by_test, true_not_false}
+use Rattle.chars.proofs.Laws.Lists.{and_both, by_test}
 use Rattle.chars.proofs.Laws.Seq.{some-length, some_test}
 use Rattle.chars.specs.Lists.{non_empty}
 use Rattle.oraddr.specs.Attributes.{single_of}
 use Rattle.oraddr.specs.Bounds.{ADMD, C}
-use Rattle.oraddr.specs.View.{empty_record, view}
+use Rattle.oraddr.specs.View.{view}
 use Rattle.oraddr.specs.Add.{Outcome, add_single}
 use Rattle.oraddr.specs.declared.record.Record.{Record}
 use Rattle.ortext_read.proofs.Laws.Apply.{complete_has}
-use Rattle.ortext_read.specs.Answers.{ReadingResult, answered, read_held, reading, reading_result, told_reading}
+use Rattle.ortext_read.specs.Answers.{ReadingResult, fault_reading, read_held, reading, reading_result, told_reading}
 use Rattle.ortext_read.specs.Apply as apply
 use Rattle.ortext_read.specs.Apply.{add_all, add_named, again, complete, finish, name_alone, or_name, read, read_as_name, read_local, read_text, refused, unread}
 use Rattle.ortext_build.specs.Adding.{add_dds, add_singles, add_units, add_held, add_name, done, start}
@@ -26,25 +26,10 @@ use Rattle.ortext_segments.specs.Keys.{keys}
 use Rattle.ortext_name.specs.Name.{Name, read_name}
 use Rattle.ortext_named.specs.Named.{is_beside}
 use Rattle.ortext_named.specs.declared.named.Named.{Named}
-use Rattle.ortext_read.specs.declared.read.Answer.{Answer}
-use Rattle.ortext_read.specs.declared.read.Answer.TheVariants.{Again, Done, Refused, Unread}
-use Rattle.ortext_read.specs.declared.read.Reading.{Reading}
-
--- a refusal has no record
-abbrev without : Answer → Reading
-without a = record { answer = a; «record» = empty_record }
-
-pub answer-unread : (r : Reading) → r ≡ without Unread → told_reading r ≡ reading_result unread
-unfolding reading answered reading_result
-answer-unread r e = ap told_reading e
-
-pub answer-refused : (r : Reading) → r ≡ without Refused → told_reading r ≡ reading_result refused
-unfolding reading answered reading_result
-answer-refused r e = ap told_reading e
-
-pub answer-again : (r : Reading) → r ≡ without Again → told_reading r ≡ reading_result again
-unfolding reading answered reading_result
-answer-again r e = ap told_reading e
+use Rattle.ortext_read.specs.declared.read.TextFault.{TextFault}
+use Rattle.ortext_read.specs.declared.read.TextFault.TheVariants.{Again, Refused, Unread}
+use Rattle.std.specs.Prelude.{◌⊎◌, Result, Ok, Err}
+use Rattle.std.proofs.Common.{inl, inr}
 
 -- what a reader came to is what its result says
 outcome_is : (x : apply.Reading) → (reading_result x).outcome ≡ x
@@ -54,8 +39,39 @@ outcome_is refused = refl
 outcome_is again = refl
 outcome_is (read r) = refl
 
-pub reads_as : (r : Reading) (x : apply.Reading) → told_reading r ≡ reading_result x → reading r ≡ x
+pub reads_as : (r : Result Record TextFault) (x : apply.Reading) → told_reading r ≡ reading_result x → reading r ≡ x
 reads_as r x e = ap (λ (o : ReadingResult). o.outcome) e ∙ outcome_is x
+
+fault_is : (f : TextFault) → told_reading (Err f) ≡ reading_result (reading (Err f))
+unfolding reading fault_reading reading_result
+fault_is Unread = refl
+fault_is Refused = refl
+fault_is Again = refl
+
+told_is : (r : Result Record TextFault) → told_reading r ≡ reading_result (reading r)
+unfolding reading reading_result
+told_is (Ok r) = refl
+told_is (Err f) = fault_is f
+
+-- and its result is what it came to
+pub told_as : (r : Result Record TextFault) (x : apply.Reading) → reading r ≡ x → told_reading r ≡ reading_result x
+told_as r x e = told_is r ∙ ap reading_result e
+
+pub answer-record : {x : apply.Reading} (q : Record) → x ≡ read q → told_reading (Ok q) ≡ reading_result x
+unfolding reading
+answer-record {x} q e = told_as (Ok q) x (sym e)
+
+pub answer-unread : {x : apply.Reading} → x ≡ unread → told_reading (Err Unread) ≡ reading_result x
+unfolding reading fault_reading
+answer-unread {x} e = told_as (Err Unread) x (sym e)
+
+pub answer-refused : {x : apply.Reading} → x ≡ refused → told_reading (Err Refused) ≡ reading_result x
+unfolding reading fault_reading
+answer-refused {x} e = told_as (Err Refused) x (sym e)
+
+pub answer-again : {x : apply.Reading} → x ≡ again → told_reading (Err Again) ≡ reading_result x
+unfolding reading fault_reading
+answer-again {x} e = told_as (Err Again) x (sym e)
 
 -- the end of a reading is told by the record, if nothing was refused
 finishing : Option Record → apply.Reading
@@ -128,31 +144,22 @@ pub unread_name : (r : Record) → unread ≡ read_as_name r none
 unfolding read_as_name
 unread_name r = refl
 
--- whether the text is no record text
-unfoldable pub is_unread : Answer → Bool
-is_unread Done = false
-is_unread Unread = true
-is_unread Refused = false
-is_unread Again = false
+-- where it does not read
+pub answer-name : (r : Record) (s : List ℕ) (f : TextFault) → f ≡ Unread → read_as_name r (read_name s) ≡ or_name r s (fault_reading f)
+unfolding or_name fault_reading
+answer-name r s f e = rw e
 
-module _ (n : ℕ) (r : Record) (s : List ℕ) (first : Reading) (e : told_reading first ≡ reading_result (read_text keys n r s)) where
-  text_is : reading first ≡ read_text keys n r s
-  text_is = reads_as first (read_text keys n r s) e
+pub answer-kept : (r : Record) (s : List ℕ) (f : TextFault) → (f ≡ Refused) ⊎ (f ≡ Again) → told_reading (Err f) ≡ reading_result (or_name r s (fault_reading f))
+unfolding or_name reading fault_reading
+answer-kept r s f (inl e) = rw e (told_as (Err Refused) refused refl)
+answer-kept r s f (inr e) = rw e (told_as (Err Again) again refl)
 
-  pub local_name : first.answer ≡ Unread → read_as_name r (read_name s) ≡ read_local keys n r s
-  unfolding read_local or_name reading answered
-  local_name f = ap (or_name r s) (sym (ap (λ a. answered a first.«record») f) ∙ text_is)
+-- the text as a local part, by what it came to as record text
+module _ (n : ℕ) (r : Record) (s : List ℕ) where
+  pub local-record : (q : Record) → told_reading (Ok q) ≡ reading_result (read_text keys n r s) → told_reading (Ok q) ≡ reading_result (read_local keys n r s)
+  unfolding read_local or_name reading
+  local-record q e = told_as (Ok q) (read_local keys n r s) (ap (or_name r s) (reads_as (Ok q) (read_text keys n r s) e))
 
-  or_kept : (a : Answer) (q : Record) → is_unread a ≡ false → answered a q ≡ or_name r s (answered a q)
-  unfolding answered or_name is_unread
-  or_kept Done q f = refl
-  or_kept Unread q f = true_not_false true refl f
-  or_kept Refused q f = refl
-  or_kept Again q f = refl
-
-  text-local : is_unread first.answer ≡ false → reading first ≡ read_local keys n r s
+  pub local-fault : (f : TextFault) → told_reading (Err f) ≡ reading_result (read_text keys n r s) → or_name r s (fault_reading f) ≡ read_local keys n r s
   unfolding read_local reading
-  text-local f = or_kept first.answer first.«record» f ∙ ap (or_name r s) text_is
-
-  pub local-text : is_unread first.answer ≡ false → told_reading first ≡ reading_result (read_local keys n r s)
-  local-text f = e ∙ ap reading_result (sym text_is ∙ text-local f)
+  local-fault f e = ap (or_name r s) (reads_as (Err f) (read_text keys n r s) e)

@@ -24,7 +24,7 @@ use Rattle.ortext_named.proofs.Laws.Sound.{get_d_own, sound-found, sound-nothing
 use Rattle.ortext_named.specs.Named.{AllSound, Sound, is_absent, no_span, nothing, place_at, spoiled, take_found, with_dd, with_found, with_once, with_unit}
 use Rattle.ortext_build.specs.Adding.{dd_at}
 use Rattle.ortext_segments.specs.declared.scan.Span.{Span}
-use Rattle.ortext_segments.specs.declared.scan.Found.{Found}
+use Rattle.ortext_segments.specs.declared.scan.Segment.{Segment as Found}
 use Rattle.ortext_named.specs.declared.named.Named.{Named}
 use Rattle.ortext_build.proofs.Laws.Spans.{span_none}
 use Rattle.ortext_read.proofs.Laws.Values.{values-append, dds-append, values-here, values_other, dds-here, dds_other, Spoiled, none-refused, unknown-none, repeated_none, empty-none, nameless_none, many-units, many-dds, some_first}

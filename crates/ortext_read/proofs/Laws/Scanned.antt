@@ -25,7 +25,7 @@ use Rattle.ortext_build.specs.Adding.{add_dds, add_singles, add_units, and_then,
 use Rattle.ortext_named.specs.Named.{AllSound, is_absent, is_beside, no_span, nothing, place_at, take_found}
 use Rattle.ortext_read.specs.Answers.{read_held}
 use Rattle.ortext_segments.specs.declared.scan.Span.{Span}
-use Rattle.ortext_segments.specs.declared.scan.Found.{Found}
+use Rattle.ortext_segments.specs.declared.scan.Segment.{Segment as Found}
 use Rattle.ortext_named.specs.declared.named.Named.{Named}
 use Rattle.ortext_build.proofs.Laws.Adding.{dds-few, singles_stop, then_done, then_is, units-few}
 use Rattle.ortext_read.proofs.Laws.Answers.{finish-refused}

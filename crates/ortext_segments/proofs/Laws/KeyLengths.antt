@@ -1,18 +1,52 @@
 -- The number of a key by its length: entries of another length are passed over.
 -- Assumes nothing.
-use mathlib.Core.Path.{◌≡◌, refl}
+use mathlib.Core.Path.{◌≡◌, refl, sym}
 use mathlib.Core.Bool.{Bool, true, false, not}
 use mathlib.Core.List.{List, [], ◌∷◌, ◌++◌}
-use Prim.Native.Nat.{ℕ, suc, ◌+◌}
+use Prim.Native.Nat.{ℕ, suc, ◌+◌, ◌≤◌, ◌<◌}
 use native.Mathlib.Omega.{arith}
-use borrow.Author.Tests.{eq-eqb, ne_eqb, not-true}
-use lib.Dec.{eqb}
+use borrow.Author.Tests.{eq-eqb, lt-ltb, ltb-false, ne_eqb, not-true}
+use lib.Dec.{eqb, ltb}
 use lib.ListN.{length, drop, take, get_or}
+use Rattle.std.specs.Prelude.{None, Some, unwrap_or}
+use Rattle.std.specs.Option.{option_eq}
 use Rattle.chars.specs.Lists.{all, bytes}
 use Rattle.chars.specs.Case.{agree, fold_case, same_byte, same_text}
 use Rattle.chars.proofs.Laws.Case.{agree_lengths_differ}
-use Rattle.chars.proofs.Laws.Lists.{and_left, and_right, true_not_false}
-use Rattle.ortext_segments.specs.Keys.{Keys, short_keys, key_count, key_number, keys}
+use Rattle.chars.proofs.Laws.Lists.{and_left, and_right, by_test, true_not_false}
+use Rattle.ortext_segments.specs.Keys.{Keys, dd_key, short_keys, key_count, key_number, key_of, keys}
+
+-- ---- the number of a key that may be none
+
+key-number_le : (ks : Keys) (s : List ℕ) → key_number ks s ≤ length ks
+unfolding key_number
+key-number_le [] s = omega arith
+key-number_le (k ∷ ks) s = by_test (same_text k s) (λ e. rw e (omega arith)) (λ e. rw e (omega (arith, key-number_le ks s)))
+
+pub number_of_key : (s : List ℕ) → unwrap_or (key_of keys s) key_count ≡ key_number keys s
+unfolding key_of keys
+number_of_key s =
+    by_test (ltb (key_number keys s) (length keys))
+    (λ e. rw e)
+    (λ e. rw e (omega (arith, key-number_le keys s, ltb-false (key_number keys s) (length keys) e)))
+
+pub some_key : (s : List ℕ) (n : ℕ) → n ≡ key_number keys s → n < key_count → Some n ≡ key_of keys s
+unfolding key_of keys
+some_key s n e l = rw (sym e, lt-ltb n key_count l)
+
+pub no_key : (s : List ℕ) → key_count ≡ key_number keys s → None ≡ key_of keys s
+unfolding key_of keys
+no_key s e = rw (sym e)
+
+-- the key is DD, as the reader asks for it
+pub dd_test : (s : List ℕ) → option_eq eqb (key_of keys s) (Some dd_key) ≡ eqb (key_number keys s) dd_key
+unfolding key_of keys
+dd_test s =
+    by_test (ltb (key_number keys s) key_count)
+    (λ e. rw e)
+    (λ e. rw (e, ne_eqb (key_number keys s) dd_key (λ f. omega (arith, f, ltb-false (key_number keys s) key_count e))))
+
+-- ---- entries of another length
 
 -- a key of another length is not spelt
 pub differ : (k s : List ℕ) → eqb (length k) (length s) ≡ false → same_text k s ≡ false

@@ -3,7 +3,7 @@
 use mathlib.Core.Path.{◌≡◌, refl, sym, ap, ◌∙◌}
 use mathlib.Core.Bool.{true, false, ◌&&◌, cond, and-false}
 use mathlib.Core.List.{List, [], ◌∷◌, ◌++◌, append-nil}
-use mathlib.Core.Option.{Option, none, some}
+use mathlib.Core.Option.{none, some}
 use Prim.Native.Nat.{ℕ, zero, suc, ◌+◌, ◌*◌, ◌-◌, ◌≤◌, ◌<◌}
 use native.Mathlib.Nat.{add-zero}
 use native.Mathlib.Numerals.{add-one}
@@ -12,6 +12,7 @@ use borrow.Author.Tests.{eqb-true, eq-eqb, ne_eqb, ltb-true, ltb-false}
 use lib.Dec.{eqb, ltb}
 use lib.ListN.{length, take, drop, get_or, length-drop, drop_of_length-le, take-append-drop}
 use lib.Seq.{append_snoc, drop-cons, drop-drop, get_or-drop}
+use Rattle.std.specs.Prelude.{Option, None, Some}
 use Rattle.chars.proofs.Laws.Seq.{byte_inside}
 use Rattle.chars.specs.Lists.{all, bytes, member, non_empty}
 use Rattle.chars.specs.Class.{is_label_char, is_printable, is_letter, is_digit, between}
@@ -21,7 +22,6 @@ use Rattle.ortext_segments.specs.Keys.{keys, key_count, key_number, dd_key, shor
 use Rattle.ortext_segments.specs.Segments.{key_run, mark, plain_key, plain_text, read_rest, segment_of, symbols, unknown}
 use Rattle.ortext_segments.specs.Scan.{Segmenting, found_segment, further, kind_from, kind_text, kind_up_to, span_text, stop_run, value_from, value_up_to}
 use Rattle.ortext_segments.specs.declared.scan.Span.{Span}
-use Rattle.ortext_segments.specs.declared.scan.SegmentRead.TheVariants.{Segment as SegmentFound, Bad}
 use Rattle.ortext_segments.proofs.Laws.Keys.{dot, equals, key-behind, key-clear, key_labels, key-run_le, none-run, run_none, slash}
 use Rattle.ortext_segments.proofs.Laws.Segments.{Stopped, Stops, bad_slash, bad_twice, bytes_only, good-segment, is_stop, lead_bad, no_slash, prepend, prepend_prepend, segment_sides, slash_free, some-append, some-ends, stop_equals, stop_half, stop_never, stop_next, stop_slash, stopless, stopless_append, stops, symbols-key, symbols-plain}
 
@@ -29,11 +29,11 @@ use Rattle.ortext_segments.proofs.Laws.Segments.{Stopped, Stops, bad_slash, bad_
 
 further-further : (m n : ℕ) (o : Option ℕ) → further m (further n o) ≡ further (m + n) o
 unfolding further
-further-further m n none = refl
-further-further m n (some k) = let e : m + (n + k) ≡ m + n + k = omega arith in rw e
+further-further m n None = refl
+further-further m n (Some k) = let e : m + (n + k) ≡ m + n + k = omega arith in rw e
 
 -- at a stop, at a byte that is no `$`, and at a `$`
-run_stop : (x : ℕ) (t : List ℕ) → is_stop x ≡ true → stop_run (x ∷ t) ≡ some 0
+run_stop : (x : ℕ) (t : List ℕ) → is_stop x ≡ true → stop_run (x ∷ t) ≡ Some 0
 unfolding stop_run
 run_stop x [] e = rw e
 run_stop x (y ∷ t) e = rw e
@@ -44,14 +44,14 @@ run-plain x [] e f = rw e
 run-plain x (y ∷ t) e f = rw (e, f)
 
 run-quoted : (x : ℕ) (t : List ℕ) → is_stop x ≡ false → eqb x 36 ≡ true
-    → stop_run (x ∷ t) ≡ cond (is_printable (get_or t 0 0)) (further 2 (stop_run (drop 1 t))) none
+    → stop_run (x ∷ t) ≡ cond (is_printable (get_or t 0 0)) (further 2 (stop_run (drop 1 t))) None
 unfolding stop_run further is_printable is_letter is_digit between bytes member
 run-quoted x [] e f = rw e
 run-quoted x (y ∷ t) e f = rw (e, f)
 
 -- the same of what is left of a text from a place on
 module _ (s : List ℕ) (i : ℕ) where
-  pub end_stop : i < length s → is_stop (get_or s i 0) ≡ true → further i (stop_run (drop i s)) ≡ some i
+  pub end_stop : i < length s → is_stop (get_or s i 0) ≡ true → further i (stop_run (drop i s)) ≡ Some i
   unfolding further
   end_stop h e = rw (drop-cons s i 0 h, run_stop (get_or s i 0) (drop (suc i) s) e, add-zero i)
 
@@ -72,54 +72,54 @@ module _ (s : List ℕ) (i : ℕ) where
       (further-further i 2 (stop_run (drop (i + 2) s)))
 
   pub end-unquoted : i < length s → is_stop (get_or s i 0) ≡ false → eqb (get_or s i 0) 36 ≡ true → is_printable (get_or s (i + 1) 0) ≡ false
-      → further i (stop_run (drop i s)) ≡ none
+      → further i (stop_run (drop i s)) ≡ None
   unfolding further
   end-unquoted h e f g = rw (drop-cons s i 0 h, run-quoted (get_or s i 0) (drop (suc i) s) e f, next_byte, g)
 
-  pub end_none : length s ≤ i → further i (stop_run (drop i s)) ≡ none
+  pub end_none : length s ≤ i → further i (stop_run (drop i s)) ≡ None
   unfolding further stop_run
   end_none h = rw (drop_of_length-le s h)
 
 -- where the end of a text lies, or that it has none, in what follows from v on
 module _ (s : List ℕ) (v : ℕ) where
-  no_end : further v (stop_run (drop v s)) ≡ none → stop_run (drop v s) ≡ none
+  no_end : further v (stop_run (drop v s)) ≡ None → stop_run (drop v s) ≡ None
   unfolding further
   no_end = go (stop_run (drop v s))
     where
-      go : (r : Option ℕ) → further v r ≡ none → r ≡ none
-      go none e = refl
-      go (some n) e = let z : ◌≡◌ {A = ℕ} 0 1 = cc in absurd (omega arith)
+      go : (r : Option ℕ) → further v r ≡ None → r ≡ None
+      go None e = refl
+      go (Some n) e = let z : ◌≡◌ {A = ℕ} 0 1 = cc in absurd (omega arith)
 
-  pub end-place : (e : ℕ) → further v (stop_run (drop v s)) ≡ some e → (v ≤ e) × (e < length s) × (stop_run (drop v s) ≡ some (e - v))
+  pub end-place : (e : ℕ) → further v (stop_run (drop v s)) ≡ Some e → (v ≤ e) × (e < length s) × (stop_run (drop v s) ≡ Some (e - v))
   unfolding further Stops
   end-place e = go (stop_run (drop v s)) (stops (drop v s))
     where
-      go : (r : Option ℕ) → Stops (drop v s) r → further v r ≡ some e → (v ≤ e) × (e < length s) × (r ≡ some (e - v))
-      go none q h = let z : ◌≡◌ {A = ℕ} 0 1 = cc in absurd (omega arith)
-      go (some n) q h =
+      go : (r : Option ℕ) → Stops (drop v s) r → further v r ≡ Some e → (v ≤ e) × (e < length s) × (r ≡ Some (e - v))
+      go None q h = let z : ◌≡◌ {A = ℕ} 0 1 = cc in absurd (omega arith)
+      go (Some n) q h =
           let w : v + n ≡ e = cc in
           let m : n ≡ e - v = omega arith in
-          (omega arith, omega (arith, q.inside, length-drop v s), ap some m)
+          (omega arith, omega (arith, q.inside, length-drop v s), ap Some m)
 
   -- what a value or a type is read as, at its end
-  pub value_nowhere : (key : ℕ) (kind : Span) → further v (stop_run (drop v s)) ≡ none → value_from s key kind v ≡ Bad
+  pub value_nowhere : (key : ℕ) (kind : Span) → further v (stop_run (drop v s)) ≡ None → value_from s key kind v ≡ None
   unfolding value_from value_up_to
   value_nowhere key kind h = rw (no_end h)
 
-  pub value-at : (key : ℕ) (kind : Span) (e : ℕ) → further v (stop_run (drop v s)) ≡ some e
-      → value_from s key kind v ≡ cond (eqb (get_or s e 0) 47) (SegmentFound (record { key = key; kind = kind; value = record { start = v; len = e - v }; next = e + 1 })) Bad
+  pub value-at : (key : ℕ) (kind : Span) (e : ℕ) → further v (stop_run (drop v s)) ≡ Some e
+      → value_from s key kind v ≡ cond (eqb (get_or s e 0) 47) (Some (record { key = key; kind = kind; value = record { start = v; len = e - v }; next = e + 1 })) None
   unfolding value_from value_up_to
   value-at key kind e h =
       let p = end-place e h in
       let m : v + (e - v) ≡ e = omega (arith, p.0) in
       rw (p.2, m)
 
-  pub kind_nowhere : further v (stop_run (drop v s)) ≡ none → kind_from s v ≡ Bad
+  pub kind_nowhere : further v (stop_run (drop v s)) ≡ None → kind_from s v ≡ None
   unfolding kind_from kind_up_to
   kind_nowhere h = rw (no_end h)
 
-  pub kind_at : (e : ℕ) → further v (stop_run (drop v s)) ≡ some e
-      → kind_from s v ≡ cond (eqb (get_or s e 0) 61) (value_from s dd_key (record { start = v; len = e - v }) (e + 1)) Bad
+  pub kind_at : (e : ℕ) → further v (stop_run (drop v s)) ≡ Some e
+      → kind_from s v ≡ cond (eqb (get_or s e 0) 61) (value_from s dd_key (record { start = v; len = e - v }) (e + 1)) None
   unfolding kind_from kind_up_to
   kind_at e h =
       let p = end-place e h in
@@ -191,9 +191,9 @@ module _ (s : List ℕ) (from : ℕ) where
       front n q x t d = front_next (a ++ 61 ∷ []) v n q x e t d ∙ rw (append_snoc a 61 q.marked)
 
       go : (r : Option ℕ) → Stops (drop v s) r → Segmenting s from (value_up_to s key kind v r)
-      go none q =
+      go None q =
           rw e (stop_never keys (a ++ 61 ∷ []) (drop v s) (slash_free a [] h refl) (some-append (a ++ 61 ∷ []) (drop v s) (some-ends a 61)) q)
-      go (some n) q =
+      go (Some n) q =
           by_test (eqb (get_or s (v + n) 0) 47)
           (λ t. rw t
           (record {
@@ -220,8 +220,8 @@ module _ (s : List ℕ) (from : ℕ) where
   kind-reads b k f h z e g l = go (stop_run (drop k s)) (stops (drop k s))
     where
       go : (r : Option ℕ) → Stops (drop k s) r → Segmenting s from (kind_up_to s k r)
-      go none q = rw e (stop_never keys f (drop k s) (no_slash f h) (some-append f (drop k s) z) q)
-      go (some n) q =
+      go None q = rw e (stop_never keys f (drop k s) (no_slash f h) (some-append f (drop k s) z) q)
+      go (Some n) q =
           by_test (eqb (get_or s (k + n) 0) 61)
           (λ t. rw t
           (value-reads b (k + n + 1) dd_key (record { start = k; len = n }) (f ++ q.marked)

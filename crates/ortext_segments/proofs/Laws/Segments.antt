@@ -4,6 +4,8 @@ use mathlib.Core.Path.{◌≡◌, refl, sym, ap, ◌∙◌}
 use mathlib.Core.Bool.{Bool, true, false, not, ◌&&◌, ◌||◌, cond}
 use mathlib.Core.List.{List, [], ◌∷◌, ◌++◌, tail, append_assoc}
 use mathlib.Core.Option.{Option, none, some}
+use Rattle.std.specs.Prelude as std
+use Rattle.std.specs.Prelude.{None, Some}
 use mathlib.Core.Logic.{◌⊎◌, inl, inr}
 use Prim.Native.Nat.{ℕ, suc, ◌+◌, ◌*◌, ◌≤◌, ◌<◌}
 use native.Mathlib.Omega.{arith}
@@ -138,9 +140,9 @@ pub record Unstopped (t : List ℕ) : Type 0 where
   pub reads : symbols t ≡ some marked
 
 -- where a text stops; one that does not stop reads with no stop, or not at all
-unfoldable pub Stops : List ℕ → Option ℕ → Type 0
-Stops t (some n) = Stopped t n
-Stops t none = (symbols t ≡ none) ⊎ Unstopped t
+unfoldable pub Stops : List ℕ → std.Option ℕ → Type 0
+Stops t (Some n) = Stopped t n
+Stops t None = (symbols t ≡ none) ⊎ Unstopped t
 
 pub stopless_append : (a b : List ℕ) → stopless a ≡ true → stopless b ≡ true → stopless (a ++ b) ≡ true
 unfolding all
@@ -159,7 +161,7 @@ stopless_one x e =
 pub quoted-free : (y : ℕ) → is_stop (y + mark) ≡ false
 quoted-free y = rw (ne_eqb (y + mark) 47 (λ r. omega arith), ne_eqb (y + mark) 61 (λ r. omega arith))
 
-stop_here : (x : ℕ) (s : List ℕ) → is_stop x ≡ true → Stops (x ∷ s) (some 0)
+stop_here : (x : ℕ) (s : List ℕ) → is_stop x ≡ true → Stops (x ∷ s) (Some 0)
 unfolding Stops symbols plain_text unquoted all non_empty
 stop_here x s e =
     record {
@@ -189,16 +191,16 @@ two_plus : (n : ℕ) → 2 + n ≡ suc (suc n)
 two_plus n = omega arith
 
 -- one character more in front, as it is or quoted: what it is with the marks goes before the rest
-stop_plain : (x : ℕ) (s : List ℕ) → is_stop x ≡ false → eqb x 36 ≡ false → (r : Option ℕ) → Stops s r → Stops (x ∷ s) (further 1 r)
+stop_plain : (x : ℕ) (s : List ℕ) → is_stop x ≡ false → eqb x 36 ≡ false → (r : std.Option ℕ) → Stops s r → Stops (x ∷ s) (further 1 r)
 unfolding Stops further prepend plain_text all non_empty
-stop_plain x s e f none (inl h) = inl (rw (symbols-plain x s f, h))
-stop_plain x s e f none (inr h) =
+stop_plain x s e f None (inl h) = inl (rw (symbols-plain x s f, h))
+stop_plain x s e f None (inr h) =
     inr (record {
       marked = x ∷ h.marked;
       free = stopless_append (x ∷ []) h.marked (stopless_one x e) h.free;
       reads = rw (symbols-plain x s f, h.reads);
     })
-stop_plain x s e f (some n) h =
+stop_plain x s e f (Some n) h =
     rw (one_plus n)
     (record {
       marked = x ∷ h.marked;
@@ -214,16 +216,16 @@ stop_plain x s e f (some n) h =
       first = λ p l z g. g;
     })
 
-stop_quoted : (x y : ℕ) (s : List ℕ) → eqb x 36 ≡ true → is_printable y ≡ true → (r : Option ℕ) → Stops s r → Stops (x ∷ y ∷ s) (further 2 r)
+stop_quoted : (x y : ℕ) (s : List ℕ) → eqb x 36 ≡ true → is_printable y ≡ true → (r : std.Option ℕ) → Stops s r → Stops (x ∷ y ∷ s) (further 2 r)
 unfolding Stops further prepend plain_text unquoted all non_empty
-stop_quoted x y s e f none (inl h) = inl (rw (symbols-quoted x y s e f, h))
-stop_quoted x y s e f none (inr h) =
+stop_quoted x y s e f None (inl h) = inl (rw (symbols-quoted x y s e f, h))
+stop_quoted x y s e f None (inr h) =
     inr (record {
       marked = (y + mark) ∷ h.marked;
       free = stopless_append ((y + mark) ∷ []) h.marked (stopless_one (y + mark) (quoted-free y)) h.free;
       reads = rw (symbols-quoted x y s e f, h.reads);
     })
-stop_quoted x y s e f (some n) h =
+stop_quoted x y s e f (Some n) h =
     rw (two_plus n)
     (record {
       marked = (y + mark) ∷ h.marked;
@@ -247,7 +249,7 @@ stops (x ∷ []) =
     (λ e. rw e (stop_here x [] e))
     (λ e. by_test (eqb x 36)
     (λ f. rw e (inl (rw f)))
-    (λ f. rw e (stop_plain x [] e f none (inr (record { marked = []; free = refl; reads = refl })))))
+    (λ f. rw e (stop_plain x [] e f None (inr (record { marked = []; free = refl; reads = refl })))))
 stops (x ∷ y ∷ s) =
     by_test (is_stop x)
     (λ e. rw e (stop_here x (y ∷ s) e))
@@ -402,7 +404,7 @@ module _ (ks : Keys) where
   -- ---- the stop of a part of the text, with what was read before it in front
 
   -- with no stop behind it, a front that has no slash reads as nothing
-  pub stop_never : (f u : List ℕ) → clear 47 f ≡ true → non_empty (f ++ u) ≡ true → Stops u none → closed_marked ks (prepend f (symbols u)) ≡ none
+  pub stop_never : (f u : List ℕ) → clear 47 f ≡ true → non_empty (f ++ u) ≡ true → Stops u None → closed_marked ks (prepend f (symbols u)) ≡ none
   unfolding Stops closed_marked prepend all
   stop_never f u h e (inl q) = rw q
   stop_never f u h e (inr q) =
@@ -418,9 +420,9 @@ module _ (ks : Keys) where
   unfolding Stops
   lead_bad f u h e g = go (stop_run u) (stops u)
     where
-      go : (r : Option ℕ) → Stops u r → closed_marked ks (prepend f (symbols u)) ≡ none
-      go none q = stop_never f u (no_slash f h) e q
-      go (some n) q =
+      go : (r : std.Option ℕ) → Stops u r → closed_marked ks (prepend f (symbols u)) ≡ none
+      go None q = stop_never f u (no_slash f h) e q
+      go (Some n) q =
           by_test (eqb (get_or u n 0) 47)
           (λ t. rw (stop_next f u n q 47 (eqb-true (get_or u n 0) 47 t) refl)
           (bad_slash (f ++ q.marked) (stopless_append f q.marked h q.free) (symbols (drop (suc n) u))))

@@ -8,7 +8,7 @@ use native.Mathlib.Nat.{le_of_suc-le-suc, suc-mul}
 use native.Mathlib.Omega.{arith}
 use mathlib.Core.Bool.{Bool, true, false, not, ◌&&◌, ◌||◌, and-false, or-true}
 use mathlib.Core.List.{List, [], ◌∷◌, ◌++◌, append_assoc, append-nil, map, reverse, reverse-cons}
-use borrow.Author.Tests.{eqb-false, eqb-true, leb-true, ltb-true, ltb-false, ne_eqb}
+use borrow.Author.Tests.{eq-eqb, eqb-false, eqb-true, le-leb, leb-true, ltb-true, ltb-false, ne_eqb}
 use lib.Dec.{eqb, eqb-suc-zero, leb, lit<, ltb}
 use lib.ListN.{length, take, drop, get_or, replicate, length-append, length-take, length-drop, length-replicate, length-reverse}
 use lib.Seq.{drop-nil, get_or-take}
@@ -16,7 +16,7 @@ use Rattle.chars.specs.Lists.{all, bytes, member, non_empty}
 use Rattle.chars.specs.Case.{same_text}
 use Rattle.chars.specs.Class.{between, is_digit, is_letter, is_printable}
 use Rattle.chars.specs.Spaces.{is_text, well_spaced}
-use Rattle.chars.proofs.Laws.Lists.{all_append, all-at, all_drop, all_end, all_weaken, and_left, and_right, and-three, by_test, or_cases, or_left, true_not_false}
+use Rattle.chars.proofs.Laws.Lists.{all_append, all-at, all_drop, all_end, all_weaken, and_left, and_right, and-three, bool_same, by_test, or_cases, or_left, true_not_false}
 use Rattle.chars.proofs.Laws.Class.{digit_printable, letter_printable}
 use Rattle.chars.proofs.Laws.Case.{equal-path}
 use Rattle.chars.proofs.Laws.Seq.{no_length, some-length}
@@ -126,6 +126,11 @@ single-some a k h e =
 
 -- ---- without the first levels
 
+pub none_test : {A : Type 0} (s : List A) → eqb (length s) 0 ≡ not (non_empty s)
+unfolding non_empty
+none_test [] = refl
+none_test (x ∷ s) = eqb-suc-zero (length s)
+
 module _ {A : Type 0} (d : A) where
   blank_left : (m : ℕ) (l : List A) (k : ℕ) → m ≤ k → get_or (replicate m d ++ drop m l) k d ≡ get_or l k d
   blank_left zero l k h = refl
@@ -179,10 +184,9 @@ module _ (n : ℕ) (a : Attributes) where
   units_left k e = rw e
 
   -- the short form's name does not change
-  pub name_left : (g i s : List ℕ) → g ≡ single_of a G → i ≡ single_of a I → s ≡ single_of a S → record { given = g; initials = i; surname = s } ≡ name_in (remaining n a)
+  pub name_left : name_in a ≡ name_in (remaining n a)
   unfolding name_in
-  name_left g i s e f h =
-      rw (single_left G (omega arith), single_left I (omega arith), single_left S (omega arith), e, f, h)
+  name_left = rw (single_left G (omega arith), single_left I (omega arith), single_left S (omega arith))
 
   -- what a loop has left to test of the first four levels, from number k on
   abbrev pub own_from : ℕ → Bool
@@ -206,30 +210,15 @@ module _ (n : ℕ) (a : Attributes) where
   unfolding remaining
   units-count = length-drop (n - own_levels) a.units
 
+  pub units-test : leb (length a.units) (n - own_levels) ≡ not (non_empty (remaining n a).units)
+  units-test =
+      bool_same (leb (length a.units) (n - own_levels)) (not (non_empty (remaining n a).units))
+      (λ e. sym (none_test (remaining n a).units) ∙ eq-eqb (length (remaining n a).units) 0 (omega (arith, units-count, leb-true (length a.units) (n - own_levels) e)))
+      (λ e. le-leb (length a.units) (n - own_levels) (omega (arith, units-count, eqb-true (length (remaining n a).units) 0 (none_test (remaining n a).units ∙ e))))
+
 -- ---- which form is written
 
 module _ (a : Attributes) where
-  pub only_own : all (λ s. not (non_empty s)) (take own_levels a.single) ≡ false → only_name a ≡ false
-  unfolding only_name
-  only_own h = rw h
-
-  pub only_units : 0 < length a.units → only_name a ≡ false
-  unfolding only_name
-  only_units h = rw (some-length a.units h, and-false (all (λ s. not (non_empty s)) (take own_levels a.single)))
-
-  pub only_common : 0 < length (single_of a CN) → only_name a ≡ false
-  unfolding only_name
-  only_common h = rw (some-length (single_of a CN) h, and-false (all (λ s. not (non_empty s)) (take own_levels a.single) && not (non_empty a.units)))
-
-  pub only_rest : all (λ s. not (non_empty s)) (take own_levels a.single) ≡ true → length a.units ≤ 0 → length (single_of a CN) ≤ 0
-      → eqb (length a.dds) 0 ≡ only_name a
-  unfolding only_name non_empty
-  only_rest h k j = rw (h, no_length a.units k, no_length (single_of a CN) j) (none_test a.dds)
-    where
-      none_test : {A : Type 0} (s : List A) → eqb (length s) 0 ≡ not (non_empty s)
-      none_test [] = refl
-      none_test (x ∷ s) = eqb-suc-zero (length s)
-
   pub writes_not : only_name a ≡ false → writes_short a ≡ false
   unfolding writes_short
   writes_not h = rw h

@@ -1,24 +1,27 @@
 -- Laws of coding: tests of a character, computed; the answer for a text and a buffer; and a step of each loop.
 -- Assumes nothing.
 use mathlib.Core.Path.{◌≡◌, refl, sym, ap, ◌∙◌}
-use Prim.Native.Nat.{ℕ, ◌+◌, ◌≤◌, ◌<◌}
-use mathlib.Core.Bool.{true, false}
+use Prim.Native.Nat.{ℕ, ◌+◌, ◌-◌, ◌≤◌, ◌<◌}
+use mathlib.Core.Bool.{Bool, true, false}
 use mathlib.Core.List.{List, [], ◌++◌, append_assoc, append-nil}
 use native.Mathlib.Numerals.{add-one}
 use native.Mathlib.Omega.{arith}
-use borrow.Author.Tests.{le-ltb, lt-ltb, ne_eqb}
+use borrow.Author.Tests.{le-ltb, lt-ltb, ltb-false, ltb-true, ne_eqb}
 use lib.Dec.{eqb, ltb}
-use lib.ListN.{length, drop, get_or, length-append, drop_of_length-le}
-use lib.Seq.{drop-cons}
+use lib.ListN.{length, take, drop, get_or, get_or-eq_default, length-drop, length-append, drop_of_length-le}
+use lib.Seq.{drop-cons, take_all}
+use Rattle.std.specs.Prelude.{Ok, Err}
+use Rattle.std.specs.Bool.{MatchBool}
+use Rattle.std.specs.Str.{IsAscii, IsNotAscii}
 use Rattle.chars.specs.Class.{highest_code, is_char}
 use Rattle.chars.specs.Lists.{all}
 use Rattle.chars.specs.Write.{Wrote}
-use Rattle.chars.proofs.Laws.Lists.{all_step, by_test, true_not_false}
-use Rattle.chars.proofs.Laws.Class.{is_char_lem, no_char}
+use Rattle.chars.proofs.Laws.Lists.{all-at, all-each, all_step, by_test, true_not_false}
+use Rattle.chars.proofs.Laws.Class.{char_most, is_char_lem, no_char}
 use Rattle.chars.proofs.Laws.Write.{wrote_nothing, wrote_then}
 use Rattle.restricted.specs.Answers.{coded_answer, short_answer}
 use Rattle.restricted.specs.Code.{code_char, coded, is_plain}
-use Rattle.restricted.specs.declared.convert.RestrictedAnswer.TheVariants.{ByteOver127, Done}
+use Rattle.restricted.specs.declared.convert.RestrictedFault.TheVariants.{ByteOver127}
 
 -- ---- a character
 
@@ -26,7 +29,20 @@ use Rattle.restricted.specs.declared.convert.RestrictedAnswer.TheVariants.{ByteO
 pub differs : (b k : ℕ) → is_plain b ≡ false → is_plain k ≡ true → eqb b k ≡ false
 differs b k e f = ne_eqb b k (λ q. true_not_false (is_plain k) f (sym (ap is_plain q) ∙ e))
 
+-- no byte is over 127
+pub ascii_all : (s : List ℕ) (r : Bool) → MatchBool r (IsAscii s) (IsNotAscii s) → r ≡ all is_char s
+ascii_all s true h = sym (all-each is_char s 0 (λ i k. is_char_lem (get_or s i 0) (omega (arith, h i))))
+ascii_all s false h =
+    by_test (all is_char s)
+    (λ e. by_test (ltb h.0 (length s))
+    (λ k. absurd (omega (arith, h.1, char_most (get_or s h.0 0) (all-at is_char s h.0 0 e (ltb-true h.0 (length s) k)))))
+    (λ k. let z : get_or s h.0 0 ≡ 0 = get_or-eq_default s 0 (ltb-false h.0 (length s) k) in absurd (omega (arith, h.1))))
+    (λ e. sym e)
+
 -- ---- what a loop has left of a text
+
+pub rest-whole : (s : List ℕ) (i : ℕ) → take (length s - i) (drop i s) ≡ drop i s
+rest-whole s i = take_all (length s - i) (drop i s) (omega (arith, length-drop i s))
 
 pub chars_step : (s : List ℕ) (i : ℕ) → i < length s → get_or s i 0 ≤ highest_code → all is_char (drop i s) ≡ all is_char (drop (i + 1) s)
 chars_step s i h k = all_step is_char s i 0 h ∙ rw (is_char_lem (get_or s i 0) k)
@@ -47,15 +63,15 @@ size_step s i h = ap length (coded_step s i h) ∙ length-append (code_char (get
 
 -- ---- the answer for a text and a buffer
 
-pub answer-high : (s : List ℕ) (room : ℕ) → all is_char s ≡ false → coded_answer s room ≡ ByteOver127
+pub answer-high : (s : List ℕ) (room : ℕ) → all is_char s ≡ false → coded_answer s room ≡ Err ByteOver127
 unfolding coded_answer short_answer
 answer-high s room e = by_test (ltb room (length (coded s))) (λ k. rw (k, e)) (λ k. rw (k, e))
 
-pub answer-short : (s t : List ℕ) (room : ℕ) → room < length (coded s) → all is_char s ≡ all is_char t → coded_answer s room ≡ short_answer t
+pub answer-short : (s t : List ℕ) (room : ℕ) → room < length (coded s) → all is_char s ≡ all is_char t → coded_answer s room ≡ Err (short_answer t)
 unfolding coded_answer short_answer
 answer-short s t room h e = rw (lt-ltb room (length (coded s)) h, e)
 
-pub answer-done : (s : List ℕ) (room : ℕ) → length (coded s) ≤ room → all is_char s ≡ true → coded_answer s room ≡ Done
+pub answer-done : (s : List ℕ) (room : ℕ) → length (coded s) ≤ room → all is_char s ≡ true → coded_answer s room ≡ Ok tt
 unfolding coded_answer
 answer-done s room h e = rw (le-ltb room (length (coded s)) h, e)
 

@@ -22,10 +22,11 @@ use Rattle.chars.proofs.Laws.Class.{digit_below, is_char_lem}
 use Rattle.chars.proofs.Laws.Digits.{is_number, number_digits, number-value}
 use Rattle.chars.proofs.Laws.Options.{ahead, ahead-length, ahead-nothing, ahead-onto, none-some}
 use Rattle.chars.proofs.Laws.Write.{wrote_nothing, wrote_one, wrote_then}
-use Rattle.restricted.specs.Answers.{Grouped, Measured, from_group, short_group, unparsed_answer}
+use Rattle.restricted.specs.Answers.{Begins, Grouped, Measured, short_group, unparsed_answer}
 use Rattle.restricted.specs.Code.{char_in, char_of, decoded, is_control, is_plain, is_short_group, or_as_it_stands, parse, parsed_after, short, short_forms}
 use Rattle.restricted.specs.declared.parse.Group.{Group}
-use Rattle.restricted.specs.declared.parse.Parsed.{Parsed}
+use Rattle.restricted.specs.declared.convert.RestrictedFault.{RestrictedFault}
+use Rattle.std.specs.Prelude.{Option, None, Some, Result, Ok, IsSome}
 
 -- ---- what a text stands for, by its first characters
 
@@ -60,7 +61,7 @@ pub parse_space : (x : ℕ) (s : List ℕ) → x ≡ 95 → parse (x ∷ s) ≡ 
 unfolding parse parsed_after
 parse_space x s e = rw (ap is_plain e ∙ space_coded, eq-eqb x 95 e)
 
-parse_other : (x : ℕ) (s : List ℕ) → is_plain x ≡ false → (x ≡ 95 → ⊥) → (x ≡ 35 → ⊥) → parse (x ∷ s) ≡ none
+pub parse_other : (x : ℕ) (s : List ℕ) → is_plain x ≡ false → (x ≡ 95 → ⊥) → (x ≡ 35 → ⊥) → parse (x ∷ s) ≡ none
 unfolding parse parsed_after
 parse_other x s e f g = rw (e, ne_eqb x 95 f, ne_eqb x 35 g)
 
@@ -77,7 +78,7 @@ module _ (s : List ℕ) where
   pub parse-number : short_group s ≡ 0 → get_or s 3 0 ≡ 35 → three_digits s ≤ highest_code → parse (35 ∷ s) ≡ onto (three_digits s) (parse (drop 4 s))
   parse-number z k h = parse_hash 35 s refl ∙ rw (is_short_lem s, z, is_number 35 s, k, le-leb (three_digits s) highest_code h, number-value s h)
 
-  parse-none : short_group s ≡ 0 → (eqb (get_or s 3 0) 35 && leb (three_digits s) highest_code) ≡ false → parse (35 ∷ s) ≡ none
+  pub parse-none : short_group s ≡ 0 → (eqb (get_or s 3 0) 35 && leb (three_digits s) highest_code) ≡ false → parse (35 ∷ s) ≡ none
   parse-none z k = parse_hash 35 s refl ∙ rw (is_short_lem s, z, is_number 35 s, k)
 
 -- ---- a group has no byte over 127
@@ -141,30 +142,20 @@ module _ (s : List ℕ) where
 
 -- ---- the group that a text begins with
 
-pub group_plain : (x : ℕ) (s : List ℕ) → is_plain x ≡ true → Grouped (x ∷ s) (record { char = x; len = 1 })
-unfolding from_group all
-group_plain x s e = record { fits = omega arith; holds = parse_plain x s e; chars = λ _. rw (plain_char x e) }
+pub group_plain : (x : ℕ) (s : List ℕ) → is_plain x ≡ true → Begins (x ∷ s) (record { char = x; len = 1 })
+unfolding all
+group_plain x s e = record { some_bytes = omega arith; fits = omega arith; holds = parse_plain x s e; chars = rw (plain_char x e) }
 
-pub group_space : (x : ℕ) (s : List ℕ) → x ≡ 95 → Grouped (x ∷ s) (record { char = 32; len = 1 })
-unfolding from_group all is_char
-group_space x s e = record { fits = omega arith; holds = parse_space x s e; chars = λ _. rw e }
-
-pub group_other : (x : ℕ) (s : List ℕ) → is_plain x ≡ false → (x ≡ 95 → ⊥) → (x ≡ 35 → ⊥) → Grouped (x ∷ s) (record { char = 0; len = 0 })
-unfolding from_group
-group_other x s e f g = record { fits = omega arith; holds = parse_other x s e f g; chars = λ z. absurd (z refl) }
+pub group_space : (x : ℕ) (s : List ℕ) → x ≡ 95 → Begins (x ∷ s) (record { char = 32; len = 1 })
+unfolding all is_char
+group_space x s e = record { some_bytes = omega arith; fits = omega arith; holds = parse_space x s e; chars = rw e }
 
 module _ (s : List ℕ) where
-  pub group_short : (short_group s ≡ 0 → ⊥) → Grouped (35 ∷ s) (record { char = short_group s; len = 3 })
-  unfolding from_group
-  group_short h = record { fits = omega arith; holds = parse-short s h; chars = λ _. chars-short s h }
+  pub group_short : (short_group s ≡ 0 → ⊥) → Begins (35 ∷ s) (record { char = short_group s; len = 3 })
+  group_short h = record { some_bytes = omega arith; fits = omega arith; holds = parse-short s h; chars = chars-short s h }
 
-  pub group_number : short_group s ≡ 0 → get_or s 3 0 ≡ 35 → three_digits s ≤ highest_code → Grouped (35 ∷ s) (record { char = three_digits s; len = 5 })
-  unfolding from_group
-  group_number z k h = record { fits = omega arith; holds = parse-number s z k h; chars = λ _. chars-number s k h }
-
-  pub group_none : short_group s ≡ 0 → (eqb (get_or s 3 0) 35 && leb (three_digits s) highest_code) ≡ false → Grouped (35 ∷ s) (record { char = 0; len = 0 })
-  unfolding from_group
-  group_none z k = record { fits = omega arith; holds = parse-none s z k; chars = λ z. absurd (z refl) }
+  pub group_number : short_group s ≡ 0 → get_or s 3 0 ≡ 35 → three_digits s ≤ highest_code → Begins (35 ∷ s) (record { char = three_digits s; len = 5 })
+  group_number z k h = record { some_bytes = omega arith; fits = omega arith; holds = parse-number s z k h; chars = chars-number s k h }
 
 -- ---- the loops: what the text up to place i stands for
 
@@ -177,30 +168,30 @@ pub record ParsedTo (s : List ℕ) (i n : ℕ) : Type 0 where
 pub parsing_start : (s : List ℕ) → ParsedTo s 0 0
 parsing_start s = record { text = []; size = refl; whole = ahead-nothing (parse s); chars = refl }
 
-pub parsing_step : {s : List ℕ} {i n : ℕ} {g : Group} → ParsedTo s i n → Grouped (drop i s) g → (g.len ≡ 0 → ⊥) → ParsedTo s (i + g.len) (n + 1)
-unfolding from_group
-parsing_step {s} {i} {n} {g} d r z = record {
+pub parsing_step : {s : List ℕ} {i n : ℕ} {g : Group} → ParsedTo s i n → Begins (drop i s) g → ParsedTo s (i + g.len) (n + 1)
+parsing_step {s} {i} {n} {g} d r = record {
   text = d.text ++ g.char ∷ [];
   size = omega (arith, d.size, length-append d.text (g.char ∷ []));
-  whole = d.whole ∙ rw (r.holds, ne_eqb g.len 0 z, drop-drop g.len i s) (ahead-onto d.text g.char (parse (drop (i + g.len) s)));
-  chars = d.chars ∙ r.chars z ∙ rw (drop-drop g.len i s);
+  whole = d.whole ∙ rw (r.holds, drop-drop g.len i s) (ahead-onto d.text g.char (parse (drop (i + g.len) s)));
+  chars = d.chars ∙ r.chars ∙ rw (drop-drop g.len i s);
 }
 
-pub parsing_none : {s : List ℕ} {i n : ℕ} {g : Group} → ParsedTo s i n → Grouped (drop i s) g → g.len ≡ 0 → parse s ≡ none
-unfolding from_group ahead
-parsing_none d r z = d.whole ∙ rw (r.holds, z)
+pub parsing_none : {s : List ℕ} {i n : ℕ} → ParsedTo s i n → parse (drop i s) ≡ none → parse s ≡ none
+unfolding ahead
+parsing_none d z = d.whole ∙ rw z
 
 pub parsing_end : {s : List ℕ} {i n : ℕ} → (d : ParsedTo s i n) → length s ≤ i → parse s ≡ some d.text
 unfolding ahead parse parsed_after
 parsing_end {s} d h = d.whole ∙ rw (drop_of_length-le s, append-nil)
 
 -- in a text that parses, something stands at the place, and there is room for it where there is for all
-pub parsing_some : {s : List ℕ} {i n : ℕ} {g : Group} {t : List ℕ} → ParsedTo s i n → Grouped (drop i s) g → parse s ≡ some t → g.len ≡ 0 → ⊥
-parsing_some d r p z = none-some (sym (parsing_none d r z) ∙ p)
+pub parsing_some : {s : List ℕ} {i n : ℕ} {t : List ℕ} → ParsedTo s i n → parse s ≡ some t → (o : Option Group) → Grouped (drop i s) o → IsSome o
+parsing_some d p (Some g) r = refl
+parsing_some d p None z = none-some (sym (parsing_none d z) ∙ p)
 
-pub parsing_room : {s : List ℕ} {i n : ℕ} {g : Group} {t : List ℕ} → ParsedTo s i n → Grouped (drop i s) g → parse s ≡ some t → n < length t
+pub parsing_room : {s : List ℕ} {i n : ℕ} {g : Group} {t : List ℕ} → ParsedTo s i n → Begins (drop i s) g → parse s ≡ some t → n < length t
 parsing_room {s} {i} {g = g} {t} d r p =
-    let q = parsing_step d r (parsing_some d r p) in
+    let q = parsing_step d r in
     omega (arith, q.size, ahead-length q.text (parse (drop (i + g.len) s)) t (sym q.whole ∙ p))
 
 -- the same, written
@@ -212,9 +203,9 @@ pub writing_start : (s old : List ℕ) → ParsedInto s old 0 0 old
 unfolding parsing_start
 writing_start s old = record { parsed = parsing_start s; wrote = wrote_nothing }
 
-pub writing_step : {s old new : List ℕ} {i n : ℕ} {g : Group} → ParsedInto s old i n new → Grouped (drop i s) g → (g.len ≡ 0 → ⊥) → ParsedInto s old (i + g.len) (n + 1) (set new n g.char)
+pub writing_step : {s old new : List ℕ} {i n : ℕ} {g : Group} → ParsedInto s old i n new → Begins (drop i s) g → ParsedInto s old (i + g.len) (n + 1) (set new n g.char)
 unfolding parsing_step
-writing_step {g = g} d r z = record { parsed = parsing_step d.parsed r z; wrote = wrote_then d.wrote (wrote_one g.char) }
+writing_step {g = g} d r = record { parsed = parsing_step d.parsed r; wrote = wrote_then d.wrote (wrote_one g.char) }
 
 pub decoded_parsed : (s t : List ℕ) → parse s ≡ some t → decoded s ≡ t
 unfolding decoded or_as_it_stands
@@ -224,13 +215,17 @@ pub decoded-stands : (s : List ℕ) → parse s ≡ none → decoded s ≡ s
 unfolding decoded or_as_it_stands
 decoded-stands s p = rw p
 
+-- a text that stands for n characters
+pub measured-some : (s : List ℕ) (n : ℕ) → Measured s (Ok (Some n)) → (all is_char s ≡ true) × (parse s ≡ some (decoded s)) × (n ≡ length (decoded s))
+measured-some s n m = let e = decoded_parsed s m.1 m.2 in (m.0, rw e m.2, rw e m.3)
+
 -- the answer for a text that does not parse
-pub measured-none : (s t : List ℕ) (r : Parsed) → parse s ≡ none → all is_char s ≡ all is_char t → r ≡ unparsed_answer t → Measured s r
-unfolding Measured unparsed_answer
+pub measured-none : (s t : List ℕ) (r : Result (Option ℕ) RestrictedFault) → parse s ≡ none → all is_char s ≡ all is_char t → r ≡ unparsed_answer t → Measured s r
+unfolding unparsed_answer
 measured-none s t r p e h =
     by_test (all is_char t)
     (λ k. rw (h, k) (e ∙ k, p))
-    (λ k. rw (h, k) (e ∙ k))
+    (λ k. rw (h, k) (refl, e ∙ k))
 
 -- ---- what the code reads at a place
 

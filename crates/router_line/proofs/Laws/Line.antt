@@ -1,5 +1,6 @@
 -- Laws of a line's answer: what the answers of the readers and of the mappings come to as a line of output.
 -- Assumes nothing.
+use Rattle.std.proofs.Common.{Ok, Err, Result}
 use mathlib.Core.Path.{◌≡◌, refl, sym, ap, ◌∙◌}
 use mathlib.Core.Bool.{true, false, cond}
 use mathlib.Core.List.{List, [], ◌∷◌, ◌++◌}
@@ -23,27 +24,22 @@ use Rattle.ortext_read.proofs.Laws.Answers.{reads_as}
 use Rattle.ortext_read.specs.Apply as apply
 use Rattle.ortext_read.specs.Apply.{again, read, read_text, refused, unread}
 use Rattle.ortext_segments.specs.Keys.{keys}
+use Rattle.ortext_read.specs.declared.read.TextFault.{TextFault}
+use Rattle.ortext_read.specs.declared.read.TextFault.TheVariants.{Again, Refused, Unread}
 use Rattle.ortext_write.specs.Write.{record_text, remaining}
-use Rattle.ortext_read.specs.declared.read.Reading.{Reading}
 use Rattle.ortext_write.proofs.Laws.Write.{text_bound}
 use Rattle.table.specs.Formed.{Formed}
 use Rattle.table.specs.Lines as lines
 use Rattle.table.specs.Lines.{malformed, well_formed}
-use Rattle.table_load.specs.Load.{FormedBy, Ready, load_answer}
-use Rattle.table_load.proofs.Laws.Ready.{ready-formed}
-use Rattle.table.specs.Rows.{table_at}
+use Rattle.table_load.specs.Load.{FormedBy}
 use Rattle.table.specs.Table.{Table}
-use Rattle.table.specs.declared.load.Loaded.{Loaded}
-use Rattle.table.specs.declared.load.TableRead.{TableRead}
-use Rattle.mapping.specs.Answers.{address_room, outward, record_number, told_record}
+use Rattle.mapping.specs.Answers.{address_room, record_number, told_record}
 use Rattle.mapping.specs.Results.{RecordResult, malformed_record}
 use Rattle.mapping.specs.ToAddress.{address_of}
 use Rattle.mapping.specs.ToRecord.{to_record, to_record_by}
-use Rattle.mapping.specs.declared.answers.RecordAnswer.{RecordAnswer}
-use Rattle.mapping.specs.declared.answers.RecordAnswer.TheVariants as record-answer
-use Rattle.mapping.specs.declared.answers.ToRecord.{ToRecord}
+use Rattle.mapping.specs.declared.answers.RecordRefusal.{RecordRefusal}
+use Rattle.mapping.specs.declared.answers.RecordRefusal.TheVariants as refusal
 use Rattle.mapping.proofs.Laws.Returned.{done-canonical}
-use Rattle.mapping.proofs.Laws.Route.{address-under}
 use Rattle.mapping.proofs.Laws.Short.{address-most}
 use Rattle.mapping.proofs.Laws.Whole.{text-places}
 use Rattle.router_line.specs.Line.{answer_room, done_line, line_answer, longest_line, read_line, record_line, refused_line, sent_line, tagged_line, text_at, text_line}
@@ -61,36 +57,26 @@ done_over k {o} {p} {new} {n} {j} w h room v =
 
 -- ---- an address
 
-number_small : (x : RecordAnswer) → record_number x < 10
+refused_not : (f : RecordRefusal) → eqb (record_number f) 0 ≡ false
 unfolding record_number
-number_small record-answer.Done = omega arith
-number_small record-answer.NoShape = omega arith
-number_small record-answer.TooLong = omega arith
-number_small record-answer.TooLongCoded = omega arith
-number_small (record-answer.Malformed l) = omega arith
+refused_not refusal.NoShape = refl
+refused_not refusal.TooLong = refl
+refused_not refusal.TooLongCoded = refl
+refused_not (refusal.Malformed l) = refl
 
-module _ (t : Table) (s : List ℕ) (x : ToRecord) (e : told_record x ≡ to_record t s) (n : ℕ) (k : n ≡ record_number x.answer) where
-  pub record_small : n < 10
-  record_small = omega (arith, number_small x.answer)
-
-  number_is : (to_record t s).number ≡ n
+module _ (t : Table) (s : List ℕ) where
+  pub record_canonical : (q : Record) → told_record (Ok q) ≡ to_record t s → Formed t → canonical_record q ≡ true
   unfolding told_record
-  number_is = ap (λ (o : RecordResult). o.number) (sym e) ∙ sym k
+  record_canonical q e f =
+      ap (λ (o : RecordResult). canonical_record o.record') e ∙ done-canonical t f s (ap (λ (o : RecordResult). o.number) (sym e))
 
-  record_is : (to_record t s).record' ≡ x.«record»
-  unfolding told_record
-  record_is = ap (λ (o : RecordResult). o.record') (sym e)
+  pub record_done : (q : Record) → told_record (Ok q) ≡ to_record t s → done_line (record_text keys (view q)) ≡ record_line (to_record t s)
+  unfolding record_line told_record
+  record_done q e = ap record_line e
 
-  pub record_canonical : Formed t → n ≡ 0 → canonical_record x.«record» ≡ true
-  record_canonical f z = ap canonical_record (sym record_is) ∙ done-canonical t f s (number_is ∙ z)
-
-  pub record_done : n ≡ 0 → done_line (record_text keys (view x.«record»)) ≡ record_line (to_record t s)
-  unfolding record_line
-  record_done z = rw (number_is, z, record_is)
-
-  pub record_not : (n ≡ 0 → ⊥) → refused_line n ≡ record_line (to_record t s)
-  unfolding record_line
-  record_not z = rw (number_is, ne_eqb n 0 z)
+  pub record_not : (f : RecordRefusal) → told_record (Err f) ≡ to_record t s → refused_line (record_number f) ≡ record_line (to_record t s)
+  unfolding record_line told_record
+  record_not f e = rw (refused_not f) at (ap record_line e)
 
 -- ---- a record text
 
@@ -112,23 +98,21 @@ module _ (t : Table) (r : Record) where
   sent_none h k = sent_as none h k
 
 -- the reading of a text, as the line that it comes to
-module _ (t : Table) (e : Record) (s : List ℕ) (x : Reading) (z : e ≡ empty_record) (k : told_reading x ≡ reading_result (read_text keys 0 e s)) where
+module _ (t : Table) (e : Record) (s : List ℕ) (x : Result Record TextFault) (z : e ≡ empty_record) (k : told_reading x ≡ reading_result (read_text keys 0 e s)) where
   pub read_as : (y : apply.Reading) → reading x ≡ y → read_line t y ≡ text_line (well_formed t) s
   unfolding text_line
   read_as y h = ap (read_line t) (sym h ∙ reads_as x (read_text keys 0 e s) k ∙ ap (λ (r : Record). read_text keys 0 r s) z)
 
-module _ (s ds rs : List ℕ) (t : Loaded) where
-  -- record to address reads the gateway and the rows to a domain alone
-  pub line-under : (x : apply.Reading) → read_line (outward s rs t) x ≡ read_line (table_at s ds rs t) x
-  unfolding read_line
-  line-under unread = refl
-  line-under refused = refl
-  line-under again = refl
-  line-under (read r) = ap (λ (o : Option (List ℕ)). cond (canonical_record r) (sent_line o) (refused_line 4)) (address-under s ds rs t (view r))
+-- a text that gives no record
+fault_line : (t : Table) (f : TextFault) → refused_line 4 ≡ read_line t (reading (Err f))
+unfolding reading read_line
+fault_line t Unread = refl
+fault_line t Refused = refl
+fault_line t Again = refl
 
-  pub text-under : (a : List ℕ) → text_line (well_formed (outward s rs t)) a ≡ text_line (well_formed (table_at s ds rs t)) a
-  unfolding text_line
-  text-under a = line-under (read_text keys 0 empty_record a)
+pub read_not : (t : Table) (e : Record) (s : List ℕ) (f : TextFault) → e ≡ empty_record → told_reading (Err f) ≡ reading_result (read_text keys 0 e s)
+    → refused_line 4 ≡ text_line (well_formed t) s
+read_not t e s f z k = fault_line t f ∙ read_as t e s (Err f) z k (reading (Err f)) refl
 
 -- ---- the form of a line
 
@@ -235,6 +219,3 @@ answer-length l s f =
     by_test (eqb (get_or s 1 0) 9)
     (λ g. rw (e, g) (tagged_length l (get_or s 0 0) (drop 2 s) f))
     (λ g. rw (e, g) (refused-length 1)))
-
-pub ready-length : (s ds rs : List ℕ) (r : TableRead) (x : List ℕ) → Ready s ds rs r → length (line_answer (load_answer s ds rs r) x) ≤ answer_room
-ready-length s ds rs r x h = answer-length (load_answer s ds rs r) x (ready-formed s ds rs r h)

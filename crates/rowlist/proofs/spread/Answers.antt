@@ -7,10 +7,10 @@ use Rattle.rowlist.proofs.spread.Goals as goal
 
 pub loop-i-init : goal.loop-i-init
 unfolding laid_out
-loop-i-init c = record { passed = omega arith; so_far = refl }
+loop-i-init c = refl
 
 pub loop-i-preserved : goal.loop-i-preserved
-loop-i-preserved c = record { passed = omega arith; so_far = cc (laid_one_more c.args.rows.now c.args.numbers.now c.loop-i.i) }
+loop-i-preserved c = cc (laid_one_more c.args.rows.now c.args.numbers.now c.loop-i.i)
 
 pub returns : goal.returns
 returns c =

@@ -15,12 +15,11 @@ use Rattle.table.specs.Lines.{Line, bad_gateway, bad_row, gateway_table, has_tag
 use Rattle.table.specs.Rows.{RowInside, bare_table, row_at, rows_at, rows_from, rows_size, table_at}
 use Rattle.table.specs.declared.line as line
 use Rattle.table.specs.declared.load as loaded
-use Rattle.table.specs.declared.load.TableRead.TheVariants.{Table as TableFound}
+use Rattle.std.specs.Prelude.{Option, Ok}
 use Rattle.table.specs.declared.rows.Key.TheVariants.{Domain, Path}
 use Rattle.table.proofs.Laws.Lines.{accepts, read-bad, read-good}
 use Rattle.table_order.proofs.Laws.Insert.{sorted_none}
 use Rattle.table_load.specs.Load.{Adding, Joined, Joining, Kept, Loading, load_answer}
-use Rattle.table_load.specs.declared.load as load
 use Rattle.table_load.proofs.Laws.Load.{adding, bad_neither, bad-unended}
 use Rattle.rowlist_load.specs.Listed.{EntryFound, entry_line, is_entry, listed_from}
 
@@ -57,13 +56,13 @@ module _ (s : List ℕ) (e : RowEntry) where
         (λ i. bad-unended s ds rs t (entry_line s e) i)
 
     -- a row to a path, and one to a domain, which is asked for second
-    pub entry_domain : {p : line.Row.Row} → EntryFound s e 68 longest_row_domain p → (r : load.RowAdded.RowAdded) (ds' rs' : List ℕ)
+    pub entry_domain : {p : line.Row.Row} → EntryFound s e 68 longest_row_domain p → (r : Option loaded.Loaded.Loaded) (ds' rs' : List ℕ)
         → Joining s (table_at s ds rs t) Domain (row_at s p) r ds' rs' → Adding s (table_at s ds rs t) (entry_line s e) r ds' rs'
     entry_domain {p} f r ds' rs' j =
         adding s ds rs t (entry_line s e) h (entry_ended 68 longest_row_domain f.accepted) Domain p tt (entry_accepts 68 longest_row_domain f.accepted) f.row r ds' rs' j
 
     pub entry_path : {p : line.Row.Row} → is_entry s e 68 longest_row_domain ≡ false → EntryFound s e 82 longest_row_domain p
-        → (r : load.RowAdded.RowAdded) (ds' rs' : List ℕ)
+        → (r : Option loaded.Loaded.Loaded) (ds' rs' : List ℕ)
         → Joining s (table_at s ds rs t) Path (row_at s p) r ds' rs' → Adding s (table_at s ds rs t) (entry_line s e) r ds' rs'
     entry_path {p} n f r ds' rs' j =
         let i = entry_ended 82 longest_row_domain f.accepted in
@@ -111,7 +110,7 @@ listing_start s ns n ds rs g h d r i =
     }
 
 module _ {s ns : List ℕ} {n : ℕ} {start : Table} {ds rs : List ℕ} {t : loaded.Loaded.Loaded} {i : ℕ} (p : Listing s ns n start ds rs t i) where
-  pub listing_end : n ≤ i → Loading s (read_rows 2 start (map (entry_line s) (entries_from ns 5 (n - 1)))) (TableFound t) ds rs
+  pub listing_end : n ≤ i → Loading s (read_rows 2 start (map (entry_line s) (entries_from ns 5 (n - 1)))) (Ok t) ds rs
   unfolding read_rows load_answer
   listing_end h = record { answers = sym (p.left ∙ rw (lines_none s ns n i h)); kept = p.kept }
 

@@ -19,7 +19,9 @@ use Rattle.rowlist.specs.declared.RowEntry.{RowEntry}
 use Rattle.table.specs.Table.{Table, Token}
 use Rattle.table.specs.Lines as lines
 use Rattle.table.specs.Lines.{Line, bad_gateway, bad_row, gateway_table, has_tag, is_new_row, loaded_from, longest_table, malformed, most_rows, read_lines, read_rows, row_of, table_lines, well_formed, with_row}
-use Rattle.table.specs.declared.load.TableRead.{TableRead}
+use Rattle.std.specs.Prelude.{Result}
+use Rattle.table.specs.declared.load.Loaded.{Loaded}
+use Rattle.table.specs.declared.load.Malformed.{Malformed}
 use Rattle.table.proofs.Laws.Formed.{lines-formed}
 use Rattle.table.proofs.Laws.Lines.{loaded_lines}
 use Rattle.table_load.specs.Load.{FormedBy, Loading, Ready}
@@ -44,7 +46,7 @@ unfolding listed_from
 listed_rules s es = lines-rules (map (entry_line s) es)
 
 -- so a table that was read from a list is ready for a run
-pub listing_ready : (s ds rs : List ℕ) (es : List RowEntry) (r : TableRead) → Loading s (listed_from s es) r ds rs → Ready s ds rs r
+pub listing_ready : (s ds rs : List ℕ) (es : List RowEntry) (r : Result Loaded Malformed) → Loading s (listed_from s es) r ds rs → Ready s ds rs r
 listing_ready s ds rs es r h = formed-ready s ds rs r (listed_from s es) h (listed_rules s es)
 
 -- ---- no entry behind the 514th matters: the gateway's, 512 rows, and the first that is one too many

@@ -5,11 +5,12 @@ use mathlib.Core.Bool.{true, false}
 use mathlib.Core.List.{List, [], ◌∷◌, ◌++◌, Memᴰ}
 use Prim.Native.Nat.{ℕ, ◌+◌, ◌≤◌, ◌<◌}
 use native.Mathlib.Omega.{arith}
-use borrow.Author.Tests.{leb-true}
+use borrow.Author.Tests.{eqb-false, eqb-true, leb-true}
 use lib.Dec.{eqb}
 use lib.ListN.{length, get_or, take, drop, length-drop, length-reverse}
 use lib.Seq.{length-take-le}
 use Rattle.chars.specs.Parts.{split}
+use Rattle.chars.proofs.Laws.Lists.{by_test}
 use Rattle.oraddr.specs.Canonical.{canonical_record}
 use Rattle.oraddr.specs.View.{empty_record, view}
 use Rattle.oraddr.specs.declared.record.Record.{Record}
@@ -45,9 +46,10 @@ odd-label : (n : ℕ) → take 3 (odd_label n) ≡ label n
 unfolding label odd_label
 odd-label n = refl
 
-pub label-length : (n : ℕ) (bytes : List ℕ) → bytes ≡ odd_label n → 3 ≡ length (take 3 bytes)
+-- with its `+` it is whole
+odd_whole : (n : ℕ) → take 4 (odd_label n) ≡ odd_label n
 unfolding label odd_label
-label-length n bytes b = ap (λ (s : List ℕ). length (take 3 s)) (sym b)
+odd_whole n = refl
 
 module _ (t : Table) (f : Formed t) (r : Row) (m : Memᴰ r t.to_domain) where
   row : is_row longest_row_domain r ≡ true
@@ -69,27 +71,36 @@ module _ (t : Table) (f : Formed t) (r : Row) (m : Memᴰ r t.to_domain) where
     pub plain_tried : comes_back t q ≡ true → Back (token_table t) (pad (domain_row r).key)
     plain_tried h = plain_back t f r m (ap (comes_back t) (sym e) ∙ h)
 
-  -- a path of two fields, or of three, with a token behind it
-  module _ (n : ℕ) (bytes : List ℕ) (b : bytes ≡ odd_label n) (k : ℕ) (l : k ≡ length r.path) (q : Record) where
-    module _ (two : k ≡ 2) (e : q ≡ candidate_of (r.path ++ bytes ∷ [])) where
-      odd-same : q ≡ candidate_of (r.path ++ odd_label n ∷ [])
-      odd-same = e ∙ ap (λ (s : Token). candidate_of (r.path ++ s ∷ [])) b
+  -- a path of two fields, or of three, with a fresh token behind it: a label with its `+`, or without
+  module _ (n size : ℕ) (k : ℕ) (l : k ≡ length r.path) (h : (2 ≤ k) × (k ≤ 3)) (four : k ≡ 2 → size ≡ 4) (less : (k ≡ 2 → ⊥) → size ≡ 3)
+      (q : Record) (e : q ≡ candidate_of (r.path ++ take size (odd_label n) ∷ [])) where
+    made : (s : Token) → take size (odd_label n) ≡ s → q ≡ candidate_of (r.path ++ s ∷ [])
+    made s h = e ∙ ap (λ (x : Token). candidate_of (r.path ++ x ∷ [])) h
 
-      pub two_asks : (canonical_record q ≡ true) × (is_carrier t (view q) ≡ false)
-      two_asks = candidate_asks t (r.path ++ odd_label n ∷ []) q odd-same (two_candidate t f r m (sym l ∙ two) n)
+    with_odd : k ≡ 2 → q ≡ candidate_of (r.path ++ odd_label n ∷ [])
+    with_odd two = made (odd_label n) (ap (λ (m : ℕ). take m (odd_label n)) (four two) ∙ odd_whole n)
 
-      pub two_tried : n ≡ fresh (token_table t) (domain_row r) → comes_back t q ≡ true → Tried (token_table t) (domain_row r) (eqb k 3)
-      two_tried g h = rw two (two_back t f r m (sym l ∙ two) n g (ap (comes_back t) (sym odd-same) ∙ h))
+    with_label : (k ≡ 2 → ⊥) → q ≡ candidate_of (r.path ++ label n ∷ [])
+    with_label other = made (label n) (ap (λ (m : ℕ). take m (odd_label n)) (less other) ∙ odd-label n)
 
-    module _ (three : k ≡ 3) (e : q ≡ candidate_of (r.path ++ take 3 bytes ∷ [])) where
-      label_same : q ≡ candidate_of (r.path ++ label n ∷ [])
-      label_same = e ∙ ap (λ (s : Token). candidate_of (r.path ++ s ∷ [])) (ap (take 3) b ∙ odd-label n)
+    three : (k ≡ 2 → ⊥) → k ≡ 3
+    three other = omega (arith, h.0, h.1)
 
-      pub bare_asks : (canonical_record q ≡ true) × (is_carrier t (view q) ≡ false)
-      bare_asks = candidate_asks t (r.path ++ label n ∷ []) q label_same (bare_candidate t f r m (sym l ∙ three) n)
+    pub fresh_asks : (canonical_record q ≡ true) × (is_carrier t (view q) ≡ false)
+    fresh_asks =
+        by_test (eqb k 2)
+        (λ b. let two : k ≡ 2 = eqb-true k 2 b in candidate_asks t (r.path ++ odd_label n ∷ []) q (with_odd two) (two_candidate t f r m (sym l ∙ two) n))
+        (λ b.
+        let other : k ≡ 2 → ⊥ = eqb-false k 2 b in
+        candidate_asks t (r.path ++ label n ∷ []) q (with_label other) (bare_candidate t f r m (sym l ∙ three other) n))
 
-      pub bare_tried : n ≡ fresh (token_table t) (domain_row r) → comes_back t q ≡ true → Tried (token_table t) (domain_row r) (eqb k 3)
-      bare_tried g h = rw three (bare-back t f r m (sym l ∙ three) n g (ap (comes_back t) (sym label_same) ∙ h))
+    pub fresh_tried : n ≡ fresh (token_table t) (domain_row r) → comes_back t q ≡ true → Tried (token_table t) (domain_row r) (eqb k 3)
+    fresh_tried g c =
+        by_test (eqb k 2)
+        (λ b. let two : k ≡ 2 = eqb-true k 2 b in rw two (two_back t f r m (sym l ∙ two) n g (ap (comes_back t) (sym (with_odd two)) ∙ c)))
+        (λ b.
+        let other : k ≡ 2 → ⊥ = eqb-false k 2 b in
+        rw (three other) (bare-back t f r m (sym l ∙ three other) n g (ap (comes_back t) (sym (with_label other)) ∙ c)))
 
 -- ---- the first candidates of a row
 

@@ -1,6 +1,7 @@
 -- What judgements say, put together: of candidates, of the rows that a loaded table keeps, and of the whole table, which is sound where all
 -- candidates of all rows come back.
 -- Assumes nothing.
+use Rattle.std.proofs.Common.{Result, Ok, Err, MatchResult}
 use mathlib.Core.Path.{◌≡◌, refl, sym, ap, subst, ◌∙◌}
 use mathlib.Core.Logic.{◌⊎◌, inl, inr, ⊎_elim}
 use mathlib.Core.Bool.{true, false}
@@ -28,40 +29,22 @@ use Rattle.table_settle.specs.Settle.{Settling, add_levels, begun, no_row, past_
 use Rattle.table.specs.declared.line as line
 use Rattle.table.specs.declared.load as load
 use Rattle.table.proofs.Laws.Fields.{between-length}
-use Rattle.soundness.specs.Check.{AllFirst, AllSecond, IsAccepted, IsRefused, Judged, JudgedBy, check_line, check_number, is_sound, told_check}
+use Rattle.soundness.specs.Check.{AllFirst, AllSecond, IsAccepted, IsRefused, Judged, told_check}
 use Rattle.soundness.specs.Sound.{Sound}
 use Rattle.soundness.specs.Fits.{fits}
 use Rattle.soundness.specs.Folded.{domain_row, path_row, token_table}
 use Rattle.soundness.specs.Tokens as tokens
 use Rattle.soundness.specs.Tokens.{Back, Checked, Tok, Tried, pad}
-use Rattle.soundness.specs.declared.answers as check
-use Rattle.soundness.specs.declared.answers.CheckAnswer.TheVariants as answer
+use Rattle.soundness.specs.declared.answers.CheckRefusal.{CheckRefusal}
+use Rattle.soundness.specs.declared.answers.CheckRefusal.TheVariants.{Unsound}
 use Rattle.soundness.proofs.Laws.Folded.{all_mem}
 
 -- ---- judgements
 
-module _ (t : Table) where
-  -- with nothing found, what was judged holds
-  pub judged-holds : (P : Type 0) (a : check.CheckAnswer.CheckAnswer) (r : Record) → is_sound a ≡ true → JudgedBy t P a r → P
-  judged-holds P answer.Sound r h j = j.0
-  judged-holds P answer.Unsound r h j = true_not_false false h refl
-  judged-holds P (answer.Malformed l) r h j = true_not_false false h refl
-
-  -- a witness is one whatever was judged
-  pub judged-found : (P Q : Type 0) (a : check.CheckAnswer.CheckAnswer) (r : Record) → is_sound a ≡ false → JudgedBy t P a r → JudgedBy t Q a r
-  judged-found P Q answer.Sound r h j = true_not_false true refl h
-  judged-found P Q answer.Unsound r h j = j
-  judged-found P Q (answer.Malformed l) r h j = j
-
-  -- what follows from what was judged was judged too
-  pub judged_then : (P Q : Type 0) (a : check.CheckAnswer.CheckAnswer) (r : Record) → (P → Q) → JudgedBy t P a r → JudgedBy t Q a r
-  judged_then P Q answer.Sound r f j = (f j.0, j.1)
-  judged_then P Q answer.Unsound r f j = j
-  judged_then P Q (answer.Malformed l) r f j = j
-
-  -- nothing was found, and what was judged holds
-  pub judged-sound : (P : Type 0) (c : check.Checked.Checked) → (c.answer ≡ answer.Sound) × (c.«record» ≡ empty_record) → P → Judged t P c
-  judged-sound P c e p = subst (λ (a : check.CheckAnswer.CheckAnswer). JudgedBy t P a c.«record») (sym e.0) (p, e.1)
+-- what follows from what was judged was judged too, and a witness is one whatever was judged
+pub judged_then : (t : Table) (P Q : Type 0) (c : Result Unit Record) → (P → Q) → Judged t P c → Judged t Q c
+judged_then t P Q (Ok _) f j = f j
+judged_then t P Q (Err r) f j = j
 
 -- ---- the rows of a loaded table
 
@@ -185,11 +168,8 @@ all_checked t first second =
 
 -- ---- what the check's caller is told
 
-pub told-judged : (t : Table) (c : check.Checked.Checked) → Judged t (Sound t) c → IsAccepted t (told_check c) ⊎ IsRefused t (told_check c)
-told-judged t c j = told c.answer c.«record» j
-  where
-    told : (a : check.CheckAnswer.CheckAnswer) (r : Record) → JudgedBy t (Sound t) a r
-        → IsAccepted t (record { number = check_number a; line = check_line a; record' = r }) ⊎ IsRefused t (record { number = check_number a; line = check_line a; record' = r })
-    told answer.Sound r h = inl (record { number = refl; line = refl; empty = h.1; sound = h.0 })
-    told answer.Unsound r h = inr (record { number = refl; line = refl; witness = h })
-    told (answer.Malformed l) r h = absurd h
+-- a judgement on the whole table, with a witness as the refusal
+pub told-judged : (t : Table) (c : Result Unit Record) (d : Result Unit CheckRefusal) → Judged t (Sound t) c
+    → MatchResult c (λ _. d ≡ Ok tt) (λ r. d ≡ Err (Unsound r)) → IsAccepted t (told_check d) ⊎ IsRefused t (told_check d)
+told-judged t (Ok _) d j e = rw e (inl (record { number = refl; line = refl; empty = refl; sound = j }))
+told-judged t (Err r) d j e = rw e (inr (record { number = refl; line = refl; witness = j }))

@@ -1,6 +1,14 @@
 -- Laws of marking the numbers of tokens as the code does it: a token folded, the token at a place of a list, the rows that are left to
 -- mark, the first place that is free, and the fresh number.
 -- Assumes nothing.
+use Rattle.std.proofs.Common.{cond, not, refl}
+use Rattle.std.specs.List.{position, position_or_len}
+use Rattle.std.specs.Option.{unwrap_or}
+use Rattle.std.proofs.lemmas.List.Recursion.{is_position_or_len}
+use Rattle.std.proofs.lemmas.List.Sums.{prefix_len-le-length}
+use borrow.Author.Tests.{ltb-false}
+use lib.Dec.{ltb}
+use Rattle.chars.proofs.Laws.Lists.{by_test}
 use mathlib.Core.Path.{◌≡◌, sym, ap, ap₂, ◌∙◌}
 use mathlib.Core.Bool.{Bool, true, false}
 use mathlib.Core.List.{List, [], ◌∷◌, map}
@@ -46,6 +54,11 @@ number_at s a b n ts k e h =
     ∙ ap (λ (t : Tok). label_number (fold_text t)) h
     ∙ ap label_number (sym (get_or-map fold_text ts k []))
 
+-- the number of the part at a place of a domain
+pub part_number : (t d : List ℕ) (k : ℕ) → t ≡ get_or (parts_of d) k [] → label_number (fold_text t) ≡ label_number (get_or (fold_tokens (parts_of d)) k [])
+unfolding fold_text
+part_number t d k h = ap label_number (ap fold_text h ∙ sym (get_or-map fold_text (parts_of d) k []))
+
 -- ---- the rows that are left to mark
 
 module _ (f : table.Row → Row) (k : ℕ) (s ns : List ℕ) (n : ℕ) (ms : List Bool) where
@@ -64,18 +77,20 @@ module _ (f : table.Row → Row) (k : ℕ) (s ns : List ℕ) (n : ℕ) (ms : Lis
 
 -- ---- the first place that is free
 
-module _ (ms : List Bool) (i : ℕ) where
-  pub free-here : i < length ms → get_or ms i false ≡ false → first_free (drop i ms) ≡ 0
-  unfolding first_free
-  free-here h e = rw (drop-cons ms i false, e)
+first_position : (ms : List Bool) → first_free ms ≡ position_or_len not ms
+unfolding first_free
+first_position = is_position_or_len first_free not refl
+    (λ m ms. elim m as (λ v. cond v (suc (first_free ms)) 0 ≡ cond (not v) 0 (1 + first_free ms)) [ true ↦ omega arith | false ↦ refl ])
 
-  pub free_later : i < length ms → get_or ms i false ≡ true → first_free (drop i ms) ≡ suc (first_free (drop (i + 1) ms))
-  unfolding first_free
-  free_later h e = rw (add-one, drop-cons ms i false, e)
-
-  pub free-none : length ms ≤ i → first_free (drop i ms) ≡ 0
-  unfolding first_free
-  free-none h = rw (drop_of_length-le ms)
+-- the place of the first that is not marked, or the length where all are
+pub free_place : (ms : List Bool) → unwrap_or (position not ms) (length ms) ≡ first_free ms
+free_place ms =
+    let n : ℕ = position_or_len not ms in
+    by_test (ltb n (length ms))
+    (λ e. rw e (sym (first_position ms)))
+    (λ e.
+    let l : length ms ≡ n = omega (arith, ltb-false n (length ms) e, prefix_len-le-length (λ m. not (not m)) ms) in
+    rw e (l ∙ sym (first_position ms)))
 
 -- ---- the fresh number
 

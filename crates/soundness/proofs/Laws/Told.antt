@@ -1,6 +1,7 @@
 -- What the code's answers tell of a candidate: the record with a token behind its levels; whether an address becomes the record, by the
 -- answer of address to record; and whether a record comes back, by the answer of record to address in a buffer that has room for any text.
 -- Assumes nothing.
+use Rattle.std.proofs.Common.{Ok, Err}
 use mathlib.Core.Path.{◌≡◌, refl, sym, ap, ◌∙◌}
 use mathlib.Core.Bool.{true, false, ◌&&◌, cond}
 use mathlib.Core.List.{List, [], ◌∷◌, ◌++◌}
@@ -10,14 +11,15 @@ use native.Mathlib.Nat.{add-zero}
 use native.Mathlib.Omega.{arith}
 use borrow.Author.Tests.{eqb-true}
 use lib.Dec.{eqb}
-use lib.ListN.{length, take}
+use lib.ListN.{length, take, length-map}
 use Rattle.chars.specs.Write.{front}
 use Rattle.chars.proofs.Laws.Lists.{by_test, true_not_false}
 use Rattle.chars.proofs.Laws.Write.{length_front, take-front}
 use Rattle.oraddr.specs.Add.{Outcome, told}
 use Rattle.oraddr.specs.Canonical.{canonical_record}
 use Rattle.oraddr.specs.Same.{same_record}
-use Rattle.oraddr.specs.View.{empty_record}
+use Rattle.oraddr.specs.Bounds.{single_count}
+use Rattle.oraddr.specs.View.{empty_record, singles_view, value_view, view}
 use Rattle.oraddr.specs.declared.add.Addition.{Addition}
 use Rattle.oraddr.specs.declared.record.Record.{Record}
 use Rattle.table.specs.Formed.{Formed}
@@ -27,9 +29,10 @@ use Rattle.mapping.specs.Answers.{address_number, address_room, record_number, t
 use Rattle.mapping.specs.Results.{AddressResult, RecordResult}
 use Rattle.mapping.specs.ToAddress.{to_address}
 use Rattle.mapping.specs.ToRecord.{to_record}
-use Rattle.mapping.specs.declared.answers.ToAddress.{ToAddress}
-use Rattle.mapping.specs.declared.answers.RecordAnswer.TheVariants.{Done}
-use Rattle.mapping.specs.declared.answers.ToRecord.{ToRecord}
+use Rattle.mapping.specs.declared.answers.AddressRefusal.{AddressRefusal}
+use Rattle.mapping.specs.declared.answers.AddressRefusal.TheVariants as address-refusal
+use Rattle.mapping.specs.declared.answers.RecordRefusal.{RecordRefusal}
+use Rattle.mapping.specs.declared.answers.RecordRefusal.TheVariants as record-refusal
 use Rattle.mapping.proofs.Laws.Short.{address-most}
 use Rattle.soundness.specs.Check.{candidate_of, with_surname}
 use Rattle.soundness.specs.Sound.{IsStruct, back_by, comes_back, text_of}
@@ -57,21 +60,38 @@ token-behind fs f k a b l h p q =
 
 -- ---- whether an address becomes the record
 
-module _ (t : Table) (s : List ℕ) (r : Record) (x : ToRecord) (e : told_record x ≡ to_record t s) where
-  pub back_done : x.answer ≡ Done → same_record x.«record» r ≡ (eqb (to_record t s).number 0 && same_record (to_record t s).record' r)
-  unfolding told_record record_number
-  back_done d =
-      let n : (to_record t s).number ≡ 0 = ap (λ (o : RecordResult). o.number) (sym e) ∙ ap record_number d in
-      let m : (to_record t s).record' ≡ x.«record» = ap (λ (o : RecordResult). o.record') (sym e) in
-      rw (n, m)
+-- no refusal has the number of done
+record_refused : (f : RecordRefusal) → eqb (record_number f) 0 ≡ false
+unfolding record_number
+record_refused record-refusal.NoShape = refl
+record_refused record-refusal.TooLong = refl
+record_refused record-refusal.TooLongCoded = refl
+record_refused (record-refusal.Malformed l) = refl
 
-  pub back-not : eqb (record_number x.answer) 0 ≡ false → false ≡ (eqb (to_record t s).number 0 && same_record (to_record t s).record' r)
-  unfolding told_record
-  back-not h =
-      let n : eqb (to_record t s).number 0 ≡ false = ap (λ (o : RecordResult). eqb o.number 0) (sym e) ∙ h in
+address_refused : (f : AddressRefusal) → eqb (address_number f) 0 ≡ false
+unfolding address_number
+address_refused address-refusal.NotCanonical = refl
+address_refused address-refusal.NoAddress = refl
+address_refused address-refusal.ShortBuffer = refl
+address_refused (address-refusal.Malformed l) = refl
+
+module _ (t : Table) (s : List ℕ) (r : Record) where
+  pub back_done : (q : Record) → told_record (Ok q) ≡ to_record t s → same_record q r ≡ back_by t r (some s)
+  unfolding told_record back_by
+  back_done q e = ap (λ (o : RecordResult). eqb o.number 0 && same_record o.record' r) e
+
+  pub back-not : (f : RecordRefusal) → told_record (Err f) ≡ to_record t s → false ≡ back_by t r (some s)
+  unfolding told_record back_by
+  back-not f e =
+      let n : eqb (to_record t s).number 0 ≡ false = ap (λ (o : RecordResult). eqb o.number 0) (sym e) ∙ record_refused f in
       rw n
 
 -- ---- whether a record comes back
+
+-- an array has as many values as its type says
+pub struct_of : (r : Record) → length r.singles.values ≡ single_count → IsStruct r
+unfolding singles_view view
+struct_of r h = length-map r.singles.values value_view ∙ h
 
 module _ (t : Table) (f : Formed t) (r : Record) (struct : IsStruct r) where
   -- there is room for the text that a record goes out as
@@ -82,28 +102,28 @@ module _ (t : Table) (f : Formed t) (r : Record) (struct : IsStruct r) where
       (λ c. address-most t f r s struct c (rw c at e))
       (λ c. let n : ◌≡◌ {A = Option (List ℕ)} none (some s) = rw c at e in let z : ◌≡◌ {A = ℕ} 0 1 = cc in absurd (omega arith))
 
-  module _ (x : ToAddress) (old new : List ℕ) (l : length old ≡ address_room) (e : told_address x new ≡ to_address t r old) where
-    placed-text : (s : List ℕ) → text_of t r ≡ some s → told_address x new ≡ record { number = 0; line = 0; size = length s; buffer = front s old }
-    placed-text s k = e ∙ given t r s old k (omega (arith, text-most s k))
+  module _ (old new : List ℕ) (l : length old ≡ address_room) where
+    placed-text : (s : List ℕ) → text_of t r ≡ some s → to_address t r old ≡ record { number = 0; line = 0; size = length s; buffer = front s old }
+    placed-text s k = given t r s old k (omega (arith, text-most s k))
 
     -- the text that was written
-    pub told_text : eqb (address_number x.answer) 0 ≡ true → (text_of t r ≡ some (take x.size new)) × (x.size ≤ length new)
+    pub told_text : (n : ℕ) → told_address (Ok n) new ≡ to_address t r old → (text_of t r ≡ some (take n new)) × (n ≤ length new)
     unfolding told_address
-    told_text h = by-text (text_of t r) refl
+    told_text n e = by-text (text_of t r) refl
       where
-        by-text : (o : Option (List ℕ)) → text_of t r ≡ o → (text_of t r ≡ some (take x.size new)) × (x.size ≤ length new)
-        by-text none k = absurd (refused t r old k (ap (λ (y : AddressResult). y.number) (sym e) ∙ eqb-true (address_number x.answer) 0 h))
+        by-text : (o : Option (List ℕ)) → text_of t r ≡ o → (text_of t r ≡ some (take n new)) × (n ≤ length new)
+        by-text none k = absurd (refused t r old k (ap (λ (y : AddressResult). y.number) (sym e)))
         by-text (some s) k =
-            let q = placed-text s k in
-            let n : x.size ≡ length s = ap (λ (y : AddressResult). y.size) q in
+            let q = e ∙ placed-text s k in
+            let m : n ≡ length s = ap (λ (y : AddressResult). y.size) q in
             let b : new ≡ front s old = ap (λ (y : AddressResult). y.buffer) q in
-            (k ∙ ap some (rw (n, b) (sym (take-front s old))), rw (n, b) (omega (arith, length_front s old (omega (arith, text-most s k)), text-most s k)))
+            (k ∙ ap some (rw (m, b) (sym (take-front s old))), rw (m, b) (omega (arith, length_front s old (omega (arith, text-most s k)), text-most s k)))
 
     -- there was none
-    pub told-not : eqb (address_number x.answer) 0 ≡ false → false ≡ comes_back t r
+    pub told-not : (g : AddressRefusal) → told_address (Err g) new ≡ to_address t r old → false ≡ comes_back t r
     unfolding told_address comes_back back_by
-    told-not h = by-text (text_of t r) refl
+    told-not g e = by-text (text_of t r) refl
       where
         by-text : (o : Option (List ℕ)) → text_of t r ≡ o → false ≡ back_by t r o
         by-text none k = refl
-        by-text (some s) k = true_not_false (eqb (address_number x.answer) 0) (ap (λ (y : AddressResult). eqb y.number 0) (placed-text s k)) h
+        by-text (some s) k = true_not_false (eqb (address_number g) 0) (ap (λ (y : AddressResult). eqb y.number 0) (e ∙ placed-text s k)) (address_refused g)

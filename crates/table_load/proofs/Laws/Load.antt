@@ -15,22 +15,21 @@ use Rattle.table.specs.Lines.{Line, TableOutcome, bad_row, has_tag, is_new_row, 
 use Rattle.table.specs.Rows.{RowInside, bare_table, line_at, lines_from, row_at, rows_at, rows_from, rows_size, table_at}
 use Rattle.table.specs.declared.line as line
 use Rattle.table.specs.declared.load as loaded
-use Rattle.table.specs.declared.load.TableRead.TheVariants.{Table as TableFound, Malformed}
 use Rattle.table.specs.declared.rows.Key.{Key}
 use Rattle.table.specs.declared.rows.Key.TheVariants.{Domain, Path}
 use Rattle.table.proofs.Laws.Lines.{accepts, lines-last, lines_next, lines_none, new-domain, new_neither, new-path, no_domain, read-bad, read-good, read_unfinished}
 use Rattle.table.proofs.Laws.Rows.{length-rows}
 use Rattle.table_order.specs.Insert.{Inserting}
 use Rattle.table_order.proofs.Laws.Insert.{sorted_none}
-use Rattle.table_load.specs.Load.{Adding, Joined, Joining, Kept, Loading, added_if, is_new_in, load_answer, with_keyed}
-use Rattle.table_load.specs.declared.load as load
-use Rattle.table_load.specs.declared.load.RowAdded.TheVariants.{Added, Bad}
+use Rattle.table_load.specs.Load.{Adding, Joined, Joining, Kept, Loading, is_new_in, load_answer, with_keyed}
+use Rattle.std.specs.Prelude.{Option, Some, None, Ok, Err}
+use Rattle.std.specs.Bool.{then_some}
 
 -- ---- a row with its key
 
 module _ (s ds rs : List ℕ) (t : loaded.Loaded.Loaded) (k : Kept s ds rs t) (h : t.to_path + t.to_domain < most_rows) (p : line.Row.Row) where
   pub joining-domain : (new : Bool) {ms : List ℕ} → Inserting Domain s ds t.to_path p new ms
-      → Joining s (table_at s ds rs t) Domain (row_at s p) (added_if new (record { gateway = t.gateway; to_path = t.to_path + 1; to_domain = t.to_domain })) ms rs
+      → Joining s (table_at s ds rs t) Domain (row_at s p) (then_some new (record { gateway = t.gateway; to_path = t.to_path + 1; to_domain = t.to_domain })) ms rs
   unfolding table_at
   joining-domain true i =
       record {
@@ -41,7 +40,7 @@ module _ (s ds rs : List ℕ) (t : loaded.Loaded.Loaded) (k : Kept s ds rs t) (h
   joining-domain false i = sym i.answers
 
   pub joining-path : (new : Bool) {ms : List ℕ} → Inserting Path s rs t.to_domain p new ms
-      → Joining s (table_at s ds rs t) Path (row_at s p) (added_if new (record { gateway = t.gateway; to_path = t.to_path; to_domain = t.to_domain + 1 })) ds ms
+      → Joining s (table_at s ds rs t) Path (row_at s p) (then_some new (record { gateway = t.gateway; to_path = t.to_path; to_domain = t.to_domain + 1 })) ds ms
   unfolding table_at
   joining-path true i =
       record {
@@ -100,9 +99,9 @@ module _ (s ds rs : List ℕ) (t : loaded.Loaded.Loaded) (l : Line) where
 
     -- the row joins those of its key where that is new, and the line is bad where it is not
     pub adding : (k : Key) (p : line.Row.Row) → Asked k (split 9 l.text) → accepts (tag_of k) longest_row_domain (split 9 l.text) ≡ true
-        → row_at s p ≡ row_of (split 9 l.text) → (r : load.RowAdded.RowAdded) (ds' rs' : List ℕ)
+        → row_at s p ≡ row_of (split 9 l.text) → (r : Option loaded.Loaded.Loaded) (ds' rs' : List ℕ)
         → Joining s (table_at s ds rs t) k (row_at s p) r ds' rs' → Adding s (table_at s ds rs t) l r ds' rs'
-    adding k p n f g (Added u) ds' rs' j =
+    adding k p n f g (Some u) ds' rs' j =
         let fs = split 9 l.text in
         let before = table_at s ds rs t in
         record {
@@ -110,13 +109,13 @@ module _ (s ds rs : List ℕ) (t : loaded.Loaded.Loaded) (l : Line) where
           table = j.table ∙ ap (with_keyed before k) g ∙ sym (with_keyed_lem before fs k n f);
           kept = j.kept;
         }
-    adding k p n f g Bad ds' rs' j =
+    adding k p n f g None ds' rs' j =
         let fs = split 9 l.text in
         let before = table_at s ds rs t in
         bad-new ∙ ap not (new_keyed before fs k n f ∙ ap (is_new_in before k) (sym g) ∙ j)
 
 -- the answer that a line is bad
-pub refused : {s ds rs : List ℕ} {l : TableOutcome} {n : ℕ} → l ≡ malformed n → Loading s l (Malformed n) ds rs
+pub refused : {s ds rs : List ℕ} {l : TableOutcome} {n : ℕ} → l ≡ malformed n → Loading s l (Err (record { line = n })) ds rs
 unfolding load_answer
 refused e = record { answers = sym e; kept = tt }
 
@@ -143,7 +142,7 @@ progress_start s ds rs g from d r i h =
     }
 
 module _ {s : List ℕ} {start : Table} {from : ℕ} {ds rs : List ℕ} {t : loaded.Loaded.Loaded} {at line : ℕ} (p : Progress s start from ds rs t at line) where
-  pub progress_end : length s ≤ at → Loading s (read_rows 2 start (lines_from s from)) (TableFound t) ds rs
+  pub progress_end : length s ≤ at → Loading s (read_rows 2 start (lines_from s from)) (Ok t) ds rs
   unfolding read_rows load_answer
   progress_end h = record { answers = sym (p.left ∙ rw (lines_none s at h)); kept = p.kept }
 

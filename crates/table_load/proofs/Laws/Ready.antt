@@ -5,20 +5,23 @@ use mathlib.Core.List.{List}
 use Prim.Native.Nat.{ℕ}
 use Rattle.table.specs.Lines as lines
 use Rattle.table.specs.Lines.{loaded_from, malformed, well_formed}
-use Rattle.table.specs.declared.load.TableRead.{TableRead}
-use Rattle.table.specs.declared.load.TableRead.TheVariants.{Table as TableFound, Malformed}
+use Rattle.std.specs.Prelude.{Result, Ok, Err}
+use Rattle.table.specs.declared.load.Loaded.{Loaded}
+use Rattle.table.specs.declared.load.Malformed.{Malformed}
 use Rattle.table.proofs.Laws.Formed.{loaded_formed}
 use Rattle.table_load.specs.Load.{FormedBy, Loading, Ready, load_answer}
+use Rattle.table_load.specs.Tables.{table_answer}
+use Rattle.table_load.specs.declared.tables as tables
 
-pub ready-formed : (s ds rs : List ℕ) (r : TableRead) → Ready s ds rs r → FormedBy (load_answer s ds rs r)
+pub ready-formed : (s ds rs : List ℕ) (r : Result Loaded Malformed) → Ready s ds rs r → FormedBy (load_answer s ds rs r)
 unfolding load_answer
-ready-formed s ds rs (TableFound t) h = h.1
-ready-formed s ds rs (Malformed n) h = tt
+ready-formed s ds rs (Ok t) h = h.1
+ready-formed s ds rs (Err e) h = tt
 
-pub formed-ready : (s ds rs : List ℕ) (r : TableRead) (l : lines.TableOutcome) → Loading s l r ds rs → FormedBy l → Ready s ds rs r
+pub formed-ready : (s ds rs : List ℕ) (r : Result Loaded Malformed) (l : lines.TableOutcome) → Loading s l r ds rs → FormedBy l → Ready s ds rs r
 unfolding load_answer
-formed-ready s ds rs (TableFound t) l h f = (h.kept, subst FormedBy (sym h.answers) f)
-formed-ready s ds rs (Malformed n) l h f = tt
+formed-ready s ds rs (Ok t) l h f = (h.kept, subst FormedBy (sym h.answers) f)
+formed-ready s ds rs (Err e) l h f = tt
 
 -- of a text
 pub loaded_rules : (s : List ℕ) → FormedBy (loaded_from s)
@@ -28,5 +31,10 @@ loaded_rules s = by-text (loaded_from s) refl
     by-text (malformed n) e = tt
     by-text (well_formed t) e = loaded_formed s t e
 
-pub loading_ready : (s ds rs : List ℕ) (r : TableRead) → Loading s (loaded_from s) r ds rs → Ready s ds rs r
+pub loading_ready : (s ds rs : List ℕ) (r : Result Loaded Malformed) → Loading s (loaded_from s) r ds rs → Ready s ds rs r
 loading_ready s ds rs r h = formed-ready s ds rs r (loaded_from s) h (loaded_rules s)
+
+-- what a table was read as, since the table's struct holds that it keeps its rules
+pub read_formed : (r : Result tables.Table.Table Malformed) → FormedBy (table_answer r)
+read_formed (Ok t) = t.formed
+read_formed (Err e) = tt

@@ -4,7 +4,7 @@
 use mathlib.Core.Path.{◌≡◌, refl, sym, ap, ap₂, ◌∙◌}
 use mathlib.Core.Bool.{Bool, true, false, ◌&&◌, and_assoc, and-false, and-true}
 use mathlib.Core.List.{List, [], ◌∷◌, ◌++◌, map, reverse}
-use mathlib.Core.Option.{Option, none, some}
+use Rattle.std.specs.Prelude.{Option, Some, None}
 use Prim.Native.Nat.{ℕ, zero, suc, ◌≤◌, ◌<◌, suc-le-suc, zero-le}
 use native.Mathlib.Nat.{le_of_suc-le-suc, not-suc-le-zero}
 use native.Mathlib.Omega.{arith}
@@ -26,7 +26,7 @@ use Rattle.table_order.proofs.Laws.Order.{RanksRise, rising-under, under-cases}
 use Rattle.table_order.proofs.Laws.Spell.{eqb_suc, flat-parts, flat-split, same-reverse, suc_zero, under-closed, zero_suc}
 use Rattle.table_lookup.specs.Begins.{begins_by}
 use Rattle.table_lookup.specs.Lookup.{begins}
-use Rattle.table_lookup.specs.Search.{Longest, Searched, Whole, front, tokens_by}
+use Rattle.table_lookup.specs.Search.{Longest, Searched, Whole, WholeFront, front, tokens_by}
 
 no : {X : Type 0} → false ≡ true → X
 no h = true_not_false true refl (sym h)
@@ -72,7 +72,7 @@ pub record Last (K : ℕ → List ℕ) (n : ℕ) (q : List ℕ) (k : ℕ) : Type
   pub over : (i : ℕ) → k < i → i < n → under (K i) q ≡ false
 
 -- no key is found where all are over the query
-pub none-under : (K : ℕ → List ℕ) (n : ℕ) (q : List ℕ) → ((i : ℕ) → i < n → under (K i) q ≡ false) → Searched K n q none
+pub none-under : (K : ℕ → List ℕ) (n : ℕ) (q : List ℕ) → ((i : ℕ) → i < n → under (K i) q ≡ false) → Searched K n q None
 none-under K n q f i l = by_test (front (K i) q) (λ e. true_not_false (under (K i) q) (front-under (K i) q e) (f i l)) (λ e. e)
 
 module _ (K : ℕ → List ℕ) (n : ℕ) (q : List ℕ) (k : ℕ) (rising : RanksRise K n) (last : Last K n q k) where
@@ -101,11 +101,11 @@ module _ (K : ℕ → List ℕ) (n : ℕ) (q : List ℕ) (k : ℕ) (rising : Ran
         (m, keeps i m u.1 h))
 
     pub search_on : (o : Option ℕ) → Searched K k cut o → Searched K n q o
-    search_on none f =
+    search_on None f =
         λ i l. by_test (front (K i) q)
         (λ e. let b = before i l e in true_not_false (front (K i) cut) b.1 (f i b.0))
         (λ e. e)
-    search_on (some j) f =
+    search_on (Some j) f =
         record {
           below = omega (arith, f.below, last.inside);
           fits = less j f.below f.fits;
@@ -187,10 +187,10 @@ module _ (K : ℕ → List ℕ) (n : ℕ) (q : List ℕ) (rising : RanksRise K n
   rises : RanksRise C n
   rises i j l h = under-closed (K j) (K i) ∙ rising i j l h
 
-  pub nothing-under : p.at ≡ 0 → Searched C n (closed q) none
+  pub nothing-under : p.at ≡ 0 → Searched C n (closed q) None
   nothing-under e = none-under C n (closed q) (λ i l. under-closed (K i) q ∙ f.highs i (omega arith) l)
 
-  module _ (k : ℕ) (at : suc k ≡ p.at) (c : ℕ) (whole : Whole q p.shared c) where
+  module _ (k : ℕ) (at : suc k ≡ p.at) where
     last : Last C n (closed q) k
     last =
         record {
@@ -199,33 +199,33 @@ module _ (K : ℕ → List ℕ) (n : ℕ) (q : List ℕ) (rising : RanksRise K n
           over = λ i l h. under-closed (K i) q ∙ f.highs i (omega arith) h;
         }
 
-    -- a key that begins the query and key k is in the longest front by whole tokens
-    short : (i : ℕ) → front (C i) (C k) ≡ true → front (C i) (closed q) ≡ true → length (K i) < c
-    short i h l =
-        whole.most (length (K i)) (omega (arith, front_both (K i) (K k) q h l, f.beside k at)) (whole_shared (K i) q l).1
+    -- a key that begins the query and key k is a front by whole tokens, and shared by the two
+    both_shared : (i : ℕ) → front (C i) (C k) ≡ true → front (C i) (closed q) ≡ true → length (K i) ≤ p.shared
+    both_shared i h l = omega (arith, front_both (K i) (K k) q h l, f.beside k at)
 
-    pub nothing-whole : c ≡ 0 → Searched C n (closed q) none
-    nothing-whole e i l =
+    pub nothing-whole : Whole q p.shared None → Searched C n (closed q) None
+    nothing-whole none i l =
         by_test (front (C i) (closed q))
-        (λ h. absurd (omega (arith, short i (up_to_lem C n (closed q) k rises last i l h).1 h)))
+        (λ h. absurd (none (length (K i)) (both_shared i (up_to_lem C n (closed q) k rises last i l h).1 h) (whole_shared (K i) q h).1))
         (λ h. h)
 
-    pub found-whole : suc (length (K k)) ≡ c → Longest C n (closed q) k
-    found-whole e =
-        let s = shared-length (K k) q in
-        let m : shared (K k) q ≡ length (K k) = omega (arith, s.0, whole.least, f.beside k at) in
-        last_found C n (closed q) k rises last (whole-front (K k) q m (whole.ends (length (K k)) e))
+    module _ (m : ℕ) (whole : WholeFront q p.shared m) where
+      pub found-whole : length (K k) ≡ m → Longest C n (closed q) k
+      found-whole e =
+          let s = shared-length (K k) q in
+          let l : shared (K k) q ≡ length (K k) = omega (arith, s.0, whole.within, f.beside k at) in
+          last_found C n (closed q) k rises last (whole-front (K k) q l (rw e whole.ends))
 
-    pub go_on : (m : ℕ) → suc m ≡ c → (length (K k) ≡ m → ⊥) → (o : Option ℕ) → Searched C k (closed (take m q)) o → Searched C n (closed q) o
-    go_on m e off =
-        search_on C n (closed q) k rises last (closed (take m q))
-        (by_test (front (C k) (closed q))
-        (λ h. let s = whole_shared (K k) q h in
-        let l : length (K k) < c = whole.most (length (K k)) (omega (arith, s.0, f.beside k at)) s.1 in
-        absurd (off (omega (arith, whole.least, s.0, f.beside k at))))
-        (λ h. h))
-        (λ i l h. front_trans (C i) (closed (take m q)) (closed q) h (front_cut q m (omega (arith, whole.least, f.beside k at, (shared-length (K k) q).1)) (whole.ends m e)))
-        (λ i l g h. front_kept (K i) q m h (omega (arith, short i g h)))
+      pub go_on : (length (K k) ≡ m → ⊥) → (o : Option ℕ) → Searched C k (closed (take m q)) o → Searched C n (closed q) o
+      go_on off =
+          search_on C n (closed q) k rises last (closed (take m q))
+          (by_test (front (C k) (closed q))
+          (λ h. let s = whole_shared (K k) q h in
+          let l : length (K k) ≤ m = whole.most (length (K k)) (omega (arith, s.0, f.beside k at)) s.1 in
+          absurd (off (omega (arith, whole.within, s.0, f.beside k at))))
+          (λ h. h))
+          (λ i l h. front_trans (C i) (closed (take m q)) (closed q) h (front_cut q m (omega (arith, whole.within, f.beside k at, (shared-length (K k) q).1)) whole.ends))
+          (λ i l g h. front_kept (K i) q m h (whole.most (length (K i)) (both_shared i g h) (whole_shared (K i) q h).1))
 
 -- ---- tokens
 

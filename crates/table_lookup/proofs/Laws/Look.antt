@@ -5,6 +5,8 @@ use mathlib.Core.Bool.{true}
 use mathlib.Core.List.Memᴰ
 use mathlib.Core.List.{List, [], ◌∷◌, Memᴰ}
 use mathlib.Core.Option.{Option, none, some}
+use Rattle.std.specs.Prelude.{Some, None}
+use Rattle.std.specs.Prelude as prelude
 use mathlib.Core.Logic.{⊎_elim}
 use Prim.Native.Nat.{ℕ, zero, suc, ◌+◌, ◌<◌}
 use native.Mathlib.Nat.{le_of_suc-le-suc, not-suc-le-zero}
@@ -45,9 +47,9 @@ agree-begins (x ∷ p) (y ∷ q) h =
     (and_both s t.0, and_both (same_sym y x ∙ s) t.1)
 
 -- the row that a number in the order stands for
-unfoldable pub row_of : (ℕ → Row) → Option ℕ → Option Row
-row_of row none = none
-row_of row (some i) = some (row i)
+unfoldable pub row_of : (ℕ → Row) → prelude.Option ℕ → Option Row
+row_of row None = none
+row_of row (Some i) = some (row i)
 
 -- The rows of a list in an order: row 0, row 1 and so on up to n are its rows, and their keys, as ranks, rise.
 pub record Arranged (key : RowKey) (rows : List Row) (row : ℕ → Row) (n : ℕ) (K : ℕ → List ℕ) : Type 0 where
@@ -77,9 +79,9 @@ module _ (key : RowKey) (rows : List Row) (row : ℕ → Row) (n : ℕ) (K : ℕ
       sym x.2 ∙ ap row z ∙ y.2))
 
   module _ (q : List Token) (Q : List ℕ) (spelt : (i : ℕ) → i < n → begins (key (row i)) q ≡ front (K i) Q) where
-    pub look-searched : (o : Option ℕ) → Searched K n Q o → look key rows q ≡ row_of row o
+    pub look-searched : (o : prelude.Option ℕ) → Searched K n Q o → look key rows q ≡ row_of row o
     unfolding row_of
-    look-searched none f = case (look key rows q) refl (found key rows q)
+    look-searched None f = case (look key rows q) refl (found key rows q)
       where
         case : (o : Option Row) → look key rows q ≡ o → Answer key rows q o → look key rows q ≡ none
         case none e g = e
@@ -88,7 +90,7 @@ module _ (key : RowKey) (rows : List Row) (row : ℕ → Row) (n : ℕ) (K : ℕ
             true_not_false (front (K x.0) Q)
             (sym (spelt x.0 x.1) ∙ rw x.2 g.fits)
             (f x.0 x.1)
-    look-searched (some j) f =
+    look-searched (Some j) f =
         look_best same_text key same_equality rows q (row j) one
         (record {
           mem = a.there j f.below;
@@ -157,7 +159,7 @@ module _ (k : Key) (s ns : List ℕ) (n : ℕ) (sorted : Sorted k s ns n) where
             ∙ tokens-spelt k (key_text k s p) (key_text k s o);
       }
 
-  pub looked : (q : List ℕ) (o : Option ℕ) → Searched (closed_key k s ns) n (closed (spell_by k q)) o
+  pub looked : (q : List ℕ) (o : prelude.Option ℕ) → Searched (closed_key k s ns) n (closed (spell_by k q)) o
       → look (by_key k) (rows_at s ns n) (tokens_by k q) ≡ row_of (λ i. row_at s (places_at ns (number_in ns i))) o
   unfolding row_in closed_key ranks_in key_in
   looked q o f =

@@ -14,7 +14,7 @@ use Rattle.chars.proofs.Laws.Case.{same_refl, same_sym, same_trans}
 use Rattle.table.specs.Table.{Row, Token}
 use Rattle.table.specs.Rows.{places_at, row_at, rows_at}
 use Rattle.table_lookup.specs.Looked.{Looked, found_row}
-use Rattle.table_lookup.specs.declared.search.Found.TheVariants.{At}
+use Rattle.std.specs.Prelude.{Some}
 use Rattle.table_lookup.specs.Lookup.{RowKey, begins, extension, look}
 use Rattle.table_lookup.proofs.Laws.Begins.{AnswerBy, IsEquality, found-by}
 
@@ -45,7 +45,7 @@ extension-front (x ∷ l) = by_test (is_domain_part x) (λ e. rw e (ap (λ (t : 
 -- ---- the rows as the code keeps them
 
 -- the key of a row that was found begins the query
-pub found-begins : (key : RowKey) (s ns : List ℕ) (q : List Token) (n j : ℕ) → Looked key s ns n q (At j) → begins (key (row_at s (places_at ns j))) q ≡ true
+pub found-begins : (key : RowKey) (s ns : List ℕ) (q : List Token) (n j : ℕ) → Looked key s ns n q (Some j) → begins (key (row_at s (places_at ns j))) q ≡ true
 unfolding found_row
 found-begins key s ns q n j h =
     let b : Answer key (rows_at s ns n) q (some (row_at s (places_at ns j))) = rw h.row at (found key (rows_at s ns n) q) in

@@ -3,11 +3,12 @@
 use mathlib.Core.Path.{◌≡◌, refl, sym, ap}
 use mathlib.Core.Bool.{true, false, cond}
 use mathlib.Core.List.{List, [], ◌∷◌}
+use Rattle.std.specs.Prelude.{Some, None}
 use Prim.Native.Nat.{ℕ, suc, ◌+◌, ◌-◌, ◌≤◌}
 use native.Mathlib.Nat.{add-zero}
 use native.Mathlib.Numerals.{add-one}
 use native.Mathlib.Omega.{arith}
-use borrow.Author.Tests.{eq-eqb, eqb-true}
+use borrow.Author.Tests.{eq-eqb, eqb-true, ne_eqb}
 use lib.Dec.{eqb}
 use lib.ListN.{length, get_or}
 use Rattle.chars.specs.Case.{agree, same_text}
@@ -51,6 +52,11 @@ empty-same s c d h k =
     (λ e. rw (between_none s c d (sym (eqb-true c d e))))
     (λ e. eq-eqb c d (omega (arith, same_length [] (between s c d) e, between-length s c d h k)))
 
+pub nothing_same : (t : List ℕ) → eqb (length t) 0 ≡ same_text [] t
+unfolding same_text agree
+nothing_same [] = refl
+nothing_same (x ∷ t) = ne_eqb (length (x ∷ t)) 0 (λ e. omega (arith, e))
+
 -- ---- the levels from one on
 
 pub ended-less : {s ends : List ℕ} {n : ℕ} (m : ℕ) → Ended s ends n → m ≤ n → Ended s ends m
@@ -63,12 +69,12 @@ ended-less m h l =
 
 -- how many levels a path has, with those that come before it, if it begins the levels from k on
 module _ (s ends : List ℕ) (k left : ℕ) (fs : List Token) where
-  pub path-none : fs ≡ [] → k ≡ cond (begins fs (tokens_from s ends k left)) (k + length fs) 0
+  pub path-none : fs ≡ [] → Some k ≡ cond (begins fs (tokens_from s ends k left)) (Some (k + length fs)) None
   unfolding begins_by
   path-none e = rw (e, add-zero k)
 
   module _ (f : Token) (gs : List Token) (e : fs ≡ f ∷ gs) where
-    pub path_over : left ≡ 0 → 0 ≡ cond (begins fs (tokens_from s ends k left)) (k + length fs) 0
+    pub path_over : left ≡ 0 → None ≡ cond (begins fs (tokens_from s ends k left)) (Some (k + length fs)) None
     unfolding begins_by tokens_from
     path_over h = rw (e, h)
 
@@ -77,11 +83,11 @@ module _ (s ends : List ℕ) (k left : ℕ) (fs : List Token) where
     more h = let z : left ≡ suc (left - 1) = omega arith in rw (add-one k) (ap (tokens_from s ends k) z)
 
     pub path_stop : (left ≡ 0 → ⊥) → same_text f (between s (get_or ends k 0) (get_or ends (k + 1) 0)) ≡ false
-        → 0 ≡ cond (begins fs (tokens_from s ends k left)) (k + length fs) 0
+        → None ≡ cond (begins fs (tokens_from s ends k left)) (Some (k + length fs)) None
     unfolding begins_by
     path_stop h n = rw (e, more h, n)
 
     pub path_next : (left ≡ 0 → ⊥) → same_text f (between s (get_or ends k 0) (get_or ends (k + 1) 0)) ≡ true
-        → cond (begins gs (tokens_from s ends (k + 1) (left - 1))) (k + 1 + length gs) 0 ≡ cond (begins fs (tokens_from s ends k left)) (k + length fs) 0
+        → cond (begins gs (tokens_from s ends (k + 1) (left - 1))) (Some (k + 1 + length gs)) None ≡ cond (begins fs (tokens_from s ends k left)) (Some (k + length fs)) None
     unfolding begins_by
     path_next h n = let z : k + 1 + length gs ≡ k + suc (length gs) = omega arith in rw (e, more h, n, z)

@@ -1,13 +1,13 @@
 -- Laws of comparing two lists of ranks place by place.
 -- Assumes nothing.
 use mathlib.Core.Path.{◌≡◌, refl, sym, ap, ◌∙◌}
-use mathlib.Core.Bool.{Bool, true, false}
+use mathlib.Core.Bool.{true, false}
 use mathlib.Core.List.{List, [], ◌∷◌, reverse, reverse-cons}
-use Prim.Native.Nat.{ℕ, zero, suc, ◌+◌, ◌≤◌, ◌<◌, suc-le-suc, zero-le, ◌-◌}
+use Prim.Native.Nat.{ℕ, zero, suc, min, ◌+◌, ◌≤◌, ◌<◌, suc-le-suc, zero-le, ◌-◌}
 use native.Mathlib.Nat.{le_of_suc-le-suc, not-suc-le-zero}
 use native.Mathlib.Numerals.{add-one}
 use native.Mathlib.Omega.{arith}
-use borrow.Author.Tests.{eq-eqb, eqb-true, le-ltb, leb-false, leb-true, lt-ltb, ltb-false, ltb-true, ne_eqb}
+use borrow.Author.Tests.{eq-eqb, eqb-true, leb-false, leb-true, ltb-false, ltb-true, ne_eqb}
 use lib.Dec.{eqb, leb, ltb}
 use lib.ListN.{length, drop, get_or, length-map, length-reverse, drop_of_length-le, get_or-append, take, length-drop}
 use lib.Seq.{drop-cons, get_or_at, get_or-drop, get_or-take, length-take-le}
@@ -15,9 +15,9 @@ use Rattle.chars.proofs.Laws.Lists.{by_test}
 use Rattle.table.specs.declared.rows.Key.{Key}
 use Rattle.table.specs.declared.rows.Key.TheVariants.{Domain, Path}
 use Rattle.table_order.specs.Order.{rank, read_by, separator, shared, spell, spell_by, under, up_to}
-use Rattle.table_order.specs.Place.{EqualUpTo, block_size, by_rank, lesser}
-use Rattle.table_order.specs.declared.compare.ByRank.{ByRank}
-use Rattle.table_order.specs.declared.compare.ByRank.TheVariants.{Greater, Less, Same}
+use Rattle.std.specs.Ordering.{nat_cmp}
+use Rattle.std.proofs.Common.{Less, Equal, Greater}
+use Rattle.table_order.specs.Place.{EqualUpTo, block_size}
 
 -- two lists of ranks are equal up to the place i: what they share and which is the lesser is settled by what stands from there on
 pub record Parted (p q : List ℕ) (i : ℕ) : Type 0 where
@@ -59,16 +59,16 @@ module _ (p q : List ℕ) (i : ℕ) (h : Parted p q i) where
       let m : shared (drop i p) (drop i q) ≡ 0 = rw (drop-cons p i 0 k, drop-cons q i 0 l, e) in
       (omega (arith, h.many), h.less ∙ rw (drop-cons p i 0 k, drop-cons q i 0 l, e))
 
-  pub parted-end : i ≡ lesser (length p) (length q) → (shared p q ≡ i) × (under p q ≡ leb (length p) (length q))
-  unfolding shared up_to lesser
+  pub parted-end : i ≡ min (length p) (length q) → (shared p q ≡ i) × (under p q ≡ leb (length p) (length q))
+  unfolding shared up_to
   parted-end e =
       by_test (leb (length p) (length q))
-      (λ f. let l : length p ≤ i = omega (arith, rw f at e) in
+      (λ f. let l : length p ≤ i = omega (arith, e, leb-true (length p) (length q) f) in
       let z : drop i p ≡ [] = drop_of_length-le p l in
       let m : shared (drop i p) (drop i q) ≡ 0 = rw z in
       (omega (arith, h.many), h.less ∙ rw (z, f)))
-      (λ f. let l : i ≡ length q = rw f at e in
-      let k : length q < length p = leb-false (length p) (length q) f in
+      (λ f. let k : length q < length p = leb-false (length p) (length q) f in
+      let l : i ≡ length q = omega arith in
       let j : length q ≤ i = omega arith in
       let z : drop i q ≡ [] = drop_of_length-le q j in
       let y : drop i p ≡ get_or p i 0 ∷ drop (suc i) p = drop-cons p i 0 (omega arith) in
@@ -86,13 +86,6 @@ unfolding spell
 spell-at sep [] i h = absurd (not-suc-le-zero h)
 spell-at sep (x ∷ s) zero h = refl
 spell-at sep (x ∷ s) (suc i) h = spell-at sep s i (le_of_suc-le-suc h)
-
-pub lesser_le : (a b : ℕ) → (lesser a b ≤ a) × (lesser a b ≤ b)
-unfolding lesser
-lesser_le a b =
-    by_test (leb a b)
-    (λ e. rw e (omega arith, leb-true a b e))
-    (λ e. rw e (omega (arith, leb-false a b e), omega arith))
 
 -- ---- a text from the right
 
@@ -183,51 +176,43 @@ module _ (a b : List ℕ) (i end : ℕ) (h : i + block_size ≤ end) (k : end �
 
 -- ---- two ranks
 
--- which of the three two ranks are, from how they stand to one another
-pub rank_same : (p q : ℕ) → p ≡ q → by_rank p q ≡ Same
-unfolding by_rank
-rank_same p q h = rw (le-ltb p q (omega (arith, h)), le-ltb q p (omega (arith, h)))
-
-pub rank_less : (p q : ℕ) → p < q → by_rank p q ≡ Less
-unfolding by_rank
-rank_less p q h = rw (lt-ltb p q h)
-
-pub rank_greater : (p q : ℕ) → q < p → by_rank p q ≡ Greater
-unfolding by_rank
-rank_greater p q h = rw (le-ltb p q (omega (arith, h)), lt-ltb q p h)
-
-is_same : ByRank → Bool
-is_same Same = true
-is_same Less = false
-is_same Greater = false
-
-is_less : ByRank → Bool
-is_less Same = false
-is_less Less = true
-is_less Greater = false
-
--- and how they stand to one another, from which they are
-is_same_lem : (p q : ℕ) → is_same (by_rank p q) ≡ eqb p q
-unfolding by_rank is_same
-is_same_lem p q =
+-- how two ranks stand to one another, from how they compare
+pub of_equal : (p q : ℕ) → Equal ≡ nat_cmp p q → eqb p q ≡ true
+of_equal p q h =
     by_test (ltb p q)
-    (λ e. rw (e, ne_eqb p q (λ h. omega (arith, h, ltb-true p q e))))
-    (λ e. by_test (ltb q p)
-    (λ f. rw (e, f, ne_eqb p q (λ h. omega (arith, h, ltb-true q p f))))
-    (λ f. rw (e, f, eq-eqb p q (omega (arith, ltb-false p q e, ltb-false q p f)))))
+    (λ e. absurd (equal_not_less (h ∙ rw e)))
+    (λ e. by_test (eqb p q) (λ f. f) (λ f. absurd (equal_not_greater (h ∙ rw (e, f)))))
+  where
+    equal_not_less : Equal ≡ Less → ⊥
+    equal_not_less e = cc
 
-is_less_lem : (p q : ℕ) → is_less (by_rank p q) ≡ ltb p q
-unfolding by_rank is_less
-is_less_lem p q = by_test (ltb p q) (λ e. rw e) (λ e. by_test (ltb q p) (λ f. rw (e, f)) (λ f. rw (e, f)))
+    equal_not_greater : Equal ≡ Greater → ⊥
+    equal_not_greater e = cc
 
-pub of_same : (p q : ℕ) → Same ≡ by_rank p q → eqb p q ≡ true
-unfolding is_same is_less
-of_same p q h = sym (is_same_lem p q) ∙ sym (ap is_same h)
+pub of_less : (p q : ℕ) → Less ≡ nat_cmp p q → (eqb p q ≡ false) × (ltb p q ≡ true)
+of_less p q h =
+    by_test (ltb p q)
+    (λ e. (ne_eqb p q (λ f. omega (arith, f, ltb-true p q e)), e))
+    (λ e. by_test (eqb p q)
+    (λ f. absurd (less_not_equal (h ∙ rw (e, f))))
+    (λ f. absurd (less_not_greater (h ∙ rw (e, f)))))
+  where
+    less_not_equal : Less ≡ Equal → ⊥
+    less_not_equal e = cc
 
-pub of_less : (p q : ℕ) → Less ≡ by_rank p q → (eqb p q ≡ false) × (ltb p q ≡ true)
-unfolding is_same is_less
-of_less p q h = (sym (is_same_lem p q) ∙ sym (ap is_same h), sym (is_less_lem p q) ∙ sym (ap is_less h))
+    less_not_greater : Less ≡ Greater → ⊥
+    less_not_greater e = cc
 
-pub of_greater : (p q : ℕ) → Greater ≡ by_rank p q → (eqb p q ≡ false) × (ltb p q ≡ false)
-unfolding is_same is_less
-of_greater p q h = (sym (is_same_lem p q) ∙ sym (ap is_same h), sym (is_less_lem p q) ∙ sym (ap is_less h))
+pub of_greater : (p q : ℕ) → Greater ≡ nat_cmp p q → (eqb p q ≡ false) × (ltb p q ≡ false)
+of_greater p q h =
+    by_test (ltb p q)
+    (λ e. absurd (greater_not_less (h ∙ rw e)))
+    (λ e. by_test (eqb p q)
+    (λ f. absurd (greater_not_equal (h ∙ rw (e, f))))
+    (λ f. (f, e)))
+  where
+    greater_not_less : Greater ≡ Less → ⊥
+    greater_not_less e = cc
+
+    greater_not_equal : Greater ≡ Equal → ⊥
+    greater_not_equal e = cc

@@ -3,16 +3,15 @@
 use mathlib.Core.Path.{◌≡◌, refl, sym, ◌∙◌}
 use mathlib.Core.Bool.{true, false}
 use mathlib.Core.List.{List, [], ◌∷◌}
-use Prim.Native.Nat.{ℕ, zero, suc, ◌+◌, ◌≤◌, ◌<◌, suc-le-suc, zero-le}
+use Prim.Native.Nat.{ℕ, zero, suc, min, ◌+◌, ◌≤◌, ◌<◌, suc-le-suc, zero-le}
 use native.Mathlib.Nat.{le_of_suc-le-suc, not-suc-le-zero}
 use native.Mathlib.Omega.{arith}
 use borrow.Author.Tests.{eq-eqb, eqb-true, ltb-true, ltb-false}
 use lib.Dec.{eqb, ltb}
 use Rattle.chars.proofs.Laws.Lists.{by_test, true_not_false}
 use Rattle.table_order.specs.Order.{shared, under, up_to}
-use Rattle.table_order.specs.Place.{PlaceFound, Within, lesser}
+use Rattle.table_order.specs.Place.{PlaceFound, Within}
 use Rattle.table_order.specs.declared.place.Range.{Range}
-use Rattle.table_order.proofs.Laws.Compare.{lesser_le}
 use Rattle.table_order.proofs.Laws.Order.{RanksRise, rising-under, under-cases, under_trans}
 
 -- what lies between two lists shares with a third what both do
@@ -62,24 +61,23 @@ module _ (K : ℕ → List ℕ) (n : ℕ) (q : List ℕ) where
 
     module _ (mid : ℕ) (above : r.lo ≤ mid) (below : mid < r.hi) where
       -- what is known to be shared before the two are compared
-      pub mid_shared : lesser r.low r.high ≤ shared (K mid) q
+      pub mid_shared : min r.low r.high ≤ shared (K mid) q
       mid_shared =
           by-lo r.lo refl
         where
-          by-hi : (k : ℕ) → suc k ≡ r.lo → lesser r.low r.high ≤ shared (K mid) q
+          by-hi : (k : ℕ) → suc k ≡ r.lo → min r.low r.high ≤ shared (K mid) q
           by-hi k e =
-              let b = lesser_le r.low r.high in
               by_test (ltb r.hi n)
               (λ l. let h : r.hi < n = ltb-true r.hi n l in
-              shared-between (lesser r.low r.high) (K k) (K mid) (K r.hi) q
+              shared-between (min r.low r.high) (K k) (K mid) (K r.hi) q
               (rising-under K n k mid rising (omega arith) (omega arith))
               (rising-under K n mid r.hi rising (omega arith) h)
-              (omega (arith, b.0, w.low_beside k e))
-              (omega (arith, b.1, w.high_beside h)))
-              (λ l. let h : r.hi ≡ n = omega (arith, ltb-false r.hi n l, w.most) in omega (arith, b.1, w.high_none h))
+              (omega (arith, w.low_beside k e))
+              (omega (arith, w.high_beside h)))
+              (λ l. let h : r.hi ≡ n = omega (arith, ltb-false r.hi n l, w.most) in omega (arith, w.high_none h))
 
-          by-lo : (lo : ℕ) → lo ≡ r.lo → lesser r.low r.high ≤ shared (K mid) q
-          by-lo zero e = let b = lesser_le r.low r.high in omega (arith, b.0, w.low_none (sym e))
+          by-lo : (lo : ℕ) → lo ≡ r.lo → min r.low r.high ≤ shared (K mid) q
+          by-lo zero e = omega (arith, w.low_none (sym e))
           by-lo (suc k) e = by-hi k e
 
       pub within_up : under (K mid) q ≡ true → Within K n q (record { lo = mid + 1; hi = r.hi; low = shared (K mid) q; high = r.high })

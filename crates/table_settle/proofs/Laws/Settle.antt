@@ -27,10 +27,8 @@ use Rattle.table.specs.Rows.{Inside, places_at, row_at, rows_at}
 use Rattle.table_lookup.specs.Begins.{resolve_by, settled_by}
 use Rattle.table_lookup.specs.Lookup.{begins, by_domain, by_path}
 use Rattle.table_lookup.specs.Looked.{Looked, found_row}
-use Rattle.table_settle.specs.Settle.{add_level, add_levels, answer_of, begun, left_parts, no_row, past_bound, past_units, settled_as, settled_from, settlement_answer, settling}
-use Rattle.table_lookup.specs.declared.search.Found.TheVariants.{At, Nowhere}
-use Rattle.table_settle.specs.declared.settle.Settled.{Settled}
-use Rattle.table_settle.specs.declared.settle.Settlement.{Settlement}
+use Rattle.table_settle.specs.Settle.{add_level, add_levels, begun, left_parts, no_row, past_bound, past_units, settled_as, settled_from, settling}
+use Rattle.std.specs.Prelude.{Some, None}
 use Rattle.table.proofs.Laws.Fields.{between-length}
 use Rattle.table_lookup.proofs.Laws.Lookup.{found-begins}
 use Rattle.table_lookup.proofs.Laws.Tails.{fold-parts, parts-append, tail-place}
@@ -164,12 +162,8 @@ settled-row fs gs k n o e f h q =
     (ap (add_levels k gs) q ∙ ap (λ (j : ℕ). add_levels j gs (add_levels 0 fs (begun empty_record))) (sym z) ∙ sym (levels-append 0 fs gs (begun empty_record)))
     ∙ rw (le-ltb 8 (length (fs ++ gs)) (omega arith))
 
--- an answer without a record
-pub answer_is : (s : Settlement) (a : Settled) → s.answer ≡ a → settlement_answer s ≡ answer_of a s.«record»
-answer_is s a e = ap (λ (x : Settled). answer_of x s.«record») e
-
 -- a row that was found
-module _ (s ns d : List ℕ) (n : ℕ) (p : Inside s ns n) (i : ℕ) (h : Looked by_domain s ns n (parts_of d) (At i)) where
+module _ (s ns d : List ℕ) (n : ℕ) (p : Inside s ns n) (i : ℕ) (h : Looked by_domain s ns n (parts_of d) (Some i)) where
   found-tail : begins (parts_of (row_at s (places_at ns i)).domain) (parts_of d) ≡ true
   found-tail = found-begins by_domain s ns (parts_of d) n i h
 
@@ -190,6 +184,6 @@ module _ (s ns d : List ℕ) (n : ℕ) (p : Inside s ns n) (i : ℕ) (h : Looked
       ∙ ap (λ (ts : List Token). settled_from (some (r.path ++ ts))) (sym (left_drop r.domain d found-tail))
       ∙ sym (ap (λ (o : Option Row). settled_from (settled_by by_domain by_path (parts_of d) o)) h.row)
 
-pub settling-none : (s ns d : List ℕ) (n : ℕ) → Looked by_domain s ns n (parts_of d) Nowhere → no_row ≡ settling (rows_at s ns n) d
+pub settling-none : (s ns d : List ℕ) (n : ℕ) → Looked by_domain s ns n (parts_of d) None → no_row ≡ settling (rows_at s ns n) d
 unfolding settling resolve_by settled_by found_row settled_from
 settling-none s ns d n h = sym (ap (λ (o : Option Row). settled_from (settled_by by_domain by_path (parts_of d) o)) h.row)

@@ -1,28 +1,16 @@
--- `cases::print::is_filled` meets its contract. The loop's invariant: what is left is filled just where all from the place on is.
+-- `cases::print::is_filled` meets its contract.
 -- Assumes nothing.
-use mathlib.Core.Path.{sym, ◌∙◌}
-use native.Mathlib.Omega.{arith}
-use borrow.Author.Tests.{eq-eqb, ne_eqb}
-use lib.Dec.{eqb}
-use lib.ListN.{get_or}
-use Rattle.chars.proofs.Laws.Lists.{all_end, all_step}
+use Rattle.std.proofs.Common.{rules, ℕ, eqb, ap, ◌∙◌}
+use Rattle.std.proofs.lemmas.Iterator.{YieldsList-from_slice}
+use Rattle.std.proofs.lemmas.Iterator.Search.{all_from_yields_List}
+use Rattle.chars.specs.Lists.{all}
+use Rattle.chars.proofs.Laws.Lists.{all_list}
 use Rattle.cases.specs.Print.{filled_from}
 use Rattle.cases.proofs.print.is_filled.Goals as goal
 
-pub returns-then-out-i : goal.returns-then-out-i
-unfolding filled_from
-returns-then-out-i c =
-    let l = c.loop-i in
-    let s = c.args.out.now in
-    sym (l.invariant ∙ all_step (λ b. eqb b 255) s l.i 0 (omega arith) ∙ rw (ne_eqb (get_or s l.i 0) 255 c.if-out-i.true))
-
-pub loop-i-preserved : goal.loop-i-preserved
-unfolding filled_from
-loop-i-preserved c =
-    let l = c.loop-i in
-    let s = c.args.out.now in
-    l.invariant ∙ all_step (λ b. eqb b 255) s l.i 0 (omega arith) ∙ rw (eq-eqb (get_or s l.i 0) 255 c.if-out-i.false)
-
 pub returns : goal.returns
 unfolding filled_from
-returns c = sym (c.loop-i.invariant ∙ all_end (λ b. eqb b 255) c.args.out.now c.loop-i.i (omega arith))
+returns c =
+    let p = λ (b : ℕ). eqb b 255 in
+    let s = c.rest.result.now in
+    all_from_yields_List p _ _ _ c.all.ensures.ran (YieldsList-from_slice s cc) (λ x b q k. search rules) ∙ all_list p s ∙ ap (all p) c.rest.ensures

@@ -1,38 +1,31 @@
 -- `cases::read::unhex` meets its contract. The loop's invariant: what is left to store, stored, gives all that is to be stored.
 -- Assumes nothing.
-use Prim.Native.Nat.{◌+◌, ◌*◌, ◌<◌}
+use Prim.Native.Nat.{◌+◌, ◌*◌, ◌/◌, ◌<◌, ◌≤◌}
 use mathlib.Core.Path.{◌≡◌, refl, ◌∙◌}
 use native.Mathlib.Omega.{arith}
-use lib.ListN.{get_or, length, length-set}
-use Rattle.cases.specs.Read.{hex_byte}
+use lib.ListN.{length, take}
+use Rattle.cases.specs.Read.{hex_bytes}
 use Rattle.cases.proofs.Laws.{no_more, no_room, room-more, room_step, unhexed}
 use Rattle.cases.proofs.read.unhex.Goals as goal
 
 pub loop-n-init : goal.loop-n-init
-loop-n-init c = (omega arith, omega arith, refl, omega arith, refl)
-
-pub returns-then-s-i-lt2 : goal.returns-then-s-i-lt2
-returns-then-s-i-lt2 c =
-    let l = c.loop-n in
-    let a = c.args in
-    unhexed a.dst.now a.s.now l.dst l.n l.invariant.3 (no_more (length a.dst.now) a.s.now l.n (omega arith)) l.invariant.4
+loop-n-init c = (omega arith, refl)
 
 pub loop-n-preserved : goal.loop-n-preserved
 loop-n-preserved c =
     let l = c.loop-n in
     let a = c.args in
-    let m : l.n < length a.dst.now = omega arith in
+    let room = length a.dst.now in
+    let m : l.n < room = omega arith in
     let k : 2 * l.n + 1 < length a.s.now = omega arith in
-    let e : c.spelt.result ≡ hex_byte (get_or a.s.now (2 * l.n) 0) (get_or a.s.now (2 * l.n + 1) 0) = rw l.invariant.0 at c.spelt.ensures in (
-      omega arith,
-      omega arith,
-      length-set l.dst l.n c.spelt.result ∙ l.invariant.2,
-      omega (arith, room-more (length a.dst.now) a.s.now l.n m k),
-      l.invariant.4 ∙ room_step (length a.dst.now) a.s.now l.dst l.n m k ∙ rw e,
-    )
+    (omega (arith, room-more room a.s.now l.n m k), l.invariant.1 ∙ room_step room a.s.now l.dst l.n m k ∙ rw c.spelt.ensures)
 
 pub returns : goal.returns
 returns c =
     let l = c.loop-n in
-    let a = c.args in
-    unhexed a.dst.now a.s.now l.dst l.n l.invariant.3 (no_room (length a.dst.now) a.s.now l.n (omega arith)) l.invariant.4
+    let s = c.args.s.now in
+    let room = length c.args.dst.now in
+    let past : length (take room (hex_bytes s)) ≤ length s / 2 = no_more room s (length s / 2) (omega arith) in
+    let full : length (take room (hex_bytes s)) ≤ room = no_room room s room (omega arith) in
+    let e : c.min-size.result ≡ l.n = omega arith in
+    rw e (unhexed c.args.dst.now s l.dst l.n l.invariant.0 (omega arith) l.invariant.1)

@@ -1,6 +1,6 @@
 -- `cases::read::unhex` meets its contract. The loop's invariant: what is left to store, stored, gives all that is to be stored.
 -- Assumes nothing.
-use Prim.Native.Nat.{◌*◌, ◌-◌, ◌≤◌}
+use Prim.Native.Nat.{◌≤◌}
 use mathlib.Core.Path.{◌≡◌}
 use lib.ListN.{length, take, drop}
 use lib.Seq.{sets}
@@ -9,11 +9,5 @@ use Rattle.cases.proofs.read.unhex.Given as goal
 
 abbrev pub invariant-loop-n : goal.invariant-loop-n
 invariant-loop-n l =
-    (l.i ≡ 2 * l.n)
-    × (l.i ≤ length l.s)
-    × (length l.dst ≡ length l.initial.dst)
-    × (l.n ≤ length (take (length l.initial.dst) (hex_bytes l.s)))
+    (l.n ≤ length (take (length l.initial.dst) (hex_bytes l.s)))
     × (sets l.initial.dst 0 (take (length l.initial.dst) (hex_bytes l.s)) ≡ sets l.dst l.n (drop l.n (take (length l.initial.dst) (hex_bytes l.s))))
-
-abbrev pub decreases-loop-n : goal.decreases-loop-n
-decreases-loop-n l = length l.s - l.i

@@ -1,6 +1,5 @@
 -- `chars::class::is_in` meets its contract: each arm asks the function of its class.
 -- Assumes nothing.
-use borrow.Author.Rules.{rules}
 use Rattle.chars.specs.Class.{is_in}
 use Rattle.chars.proofs.class.is_in.Goals as goal
 

@@ -1,7 +1,6 @@
 -- `chars::parts::is_text` meets its contract: a text is printable parts with single spaces between (`text-parted`).
 -- Assumes nothing.
 use mathlib.Core.Path.{sym, ◌∙◌}
-use borrow.Author.Rules.{rules}
 use Rattle.chars.specs.Class.{is_in}
 use Rattle.chars.proofs.Laws.Spaces.{text-parted}
 use Rattle.chars.proofs.parts.is_text.Goals as goal

@@ -1,15 +1,10 @@
 -- `date_read::date::days_in` meets its contract.
 -- Assumes nothing.
-use mathlib.Core.Path.{◌∙◌, sym, ap}
-use Rattle.date_read.specs.Date.{days_in}
 use Rattle.date_read.proofs.Laws.Date.{no_month, plain_month}
 use Rattle.date_read.proofs.date.days_in.Goals as goal
 
-pub returns-then-month-gt-LAST_MONTH : goal.returns-then-month-gt-LAST_MONTH
-returns-then-month-gt-LAST_MONTH c = no_month c.args.year c.args.month c.if-month-gt-LAST_MONTH.true
+pub returns-then-month-le-LAST_MONTH : goal.returns-then-month-le-LAST_MONTH
+returns-then-month-le-LAST_MONTH c = plain_month c.args.year c.args.month c.if-month-eq2.false
 
-pub returns-then-month-eq2 : goal.returns-then-month-eq2
-returns-then-month-eq2 c = c.february.ensures ∙ ap (days_in c.args.year) (sym c.if-month-eq2.true)
-
-pub returns : goal.returns
-returns c = plain_month c.args.year c.args.month c.if-month-eq2.false
+pub returns-else-month-le-LAST_MONTH : goal.returns-else-month-le-LAST_MONTH
+returns-else-month-le-LAST_MONTH c = no_month c.args.year c.args.month c.if-month-le-LAST_MONTH.false

@@ -1,43 +1,32 @@
--- `date_read::read::number_in` meets its contract. The loop's invariant: the text's number is its number in the names from `from` on, counted
--- from `number`.
+-- `date_read::read::number_in` meets its contract.
 -- Assumes nothing.
-use mathlib.Core.Path.{◌≡◌, refl, sym, ap, ◌∙◌}
-use mathlib.Core.Bool.{Bool}
-use mathlib.Core.List.{List}
-use Prim.Native.Nat.{ℕ, ◌+◌, ◌-◌}
-use native.Mathlib.Omega.{arith}
-use lib.ListN.{take, drop}
+use mathlib.Core.Path.{◌≡◌, sym, ap, ◌∙◌}
+use Prim.Native.Nat.{suc}
+use native.Mathlib.Numerals.{add-one}
+use Rattle.std.specs.Prelude.{option_map, unwrap_or}
+use Rattle.std.proofs.Common.{rules, tests}
+use Rattle.std.proofs.lemmas.Iterator.{YieldsList-from_slice}
+use Rattle.std.proofs.lemmas.Iterator.Search.{position_from_yields_List}
+use Rattle.std.proofs.lemmas.Iterator.Adapters.{position_from-zero}
+use Rattle.std.specs.List.{position_from}
 use Rattle.chars.specs.Case.{same_text}
-use Rattle.date_read.proofs.Laws.Names.{number_behind, number-here, number-none}
+use Rattle.date_read.proofs.Laws.Names.{numbered}
 use Rattle.date_read.proofs.read.number_in.Goals as goal
 
--- the name at a place
-part : (t s : List ℕ) (i : ℕ) {b : Bool} → same_text (take (i + 3 - i) (drop i t)) s ≡ b → same_text (take 3 (drop i t)) s ≡ b
-part t s i e = let n : i + 3 - i ≡ 3 = omega arith in ap (λ (k : ℕ). same_text (take k (drop i t)) s) (sym n) ∙ e
+pub returns-in_err-place-clause-value : goal.returns-in_err-place-clause-value
+returns-in_err-place-clause-value c =
+    let s = c.args.s.now in
+    let ns = c.args.names.now in
+    let e : c.position.result ≡ position_from (λ n. same_text n s) 0 ns =
+    position_from_yields_List (λ n. same_text n s) _ _ c.position.result c.position.ensures.ran (YieldsList-from_slice ns cc) (λ x b q k. search (rules, tests))
+    ∙ position_from-zero (λ n. same_text n s) ns in
+    rw c.from_residual.ensures (ap (λ o. unwrap_or (option_map (λ i. suc i) o) 0) (sym c.in_err-place.was ∙ e) ∙ numbered ns 0 s)
 
-pub loop-from-init : goal.loop-from-init
-loop-from-init c = (omega arith, omega arith, refl)
-
-pub returns-then-same_text : goal.returns-then-same_text
-returns-then-same_text c =
-    let l = c.loop-from in
-    let a = c.args in
-    number-here a.names.now a.s.now l.from l.number (omega arith)
-    (part a.names.now a.s.now l.from (sym c.same_text.ensures ∙ c.if-same_text.true)) ∙ sym l.invariant.2
-
-pub loop-from-preserved : goal.loop-from-preserved
-loop-from-preserved c =
-    let l = c.loop-from in
-    let a = c.args in (
-      omega arith,
-      omega arith,
-      l.invariant.2
-          ∙ sym (number_behind a.names.now a.s.now l.from l.number (omega arith)
-          (part a.names.now a.s.now l.from (sym c.same_text.ensures ∙ c.if-same_text.false))),
-    )
-
-pub returns : goal.returns
-returns c =
-    let l = c.loop-from in
-    let a = c.args in
-    number-none a.names.now a.s.now l.from l.number (omega arith) ∙ sym l.invariant.2
+pub returns-clause-value : goal.returns-clause-value
+returns-clause-value c =
+    let s = c.args.s.now in
+    let ns = c.args.names.now in
+    let e : c.position.result ≡ position_from (λ n. same_text n s) 0 ns =
+    position_from_yields_List (λ n. same_text n s) _ _ c.position.result c.position.ensures.ran (YieldsList-from_slice ns cc) (λ x b q k. search (rules, tests))
+    ∙ position_from-zero (λ n. same_text n s) ns in
+    add-one c.in_ok-place.place ∙ ap (λ o. unwrap_or (option_map (λ i. suc i) o) 0) (sym c.in_ok-place.was ∙ e) ∙ numbered ns 0 s

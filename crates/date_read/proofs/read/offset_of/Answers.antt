@@ -1,45 +1,37 @@
 -- `date_read::read::offset_of` meets its contract.
 -- Assumes nothing.
-use borrow.Author.Tests.{eq-eqb, ne_eqb}
-use Rattle.date_read.specs.Read.{offset_of}
-use Rattle.date_read.proofs.Laws.Read.{good_offset, late_hours, late_minutes, minus_sign, plus_sign}
+use native.Mathlib.Omega.{arith}
+use Rattle.date_read.proofs.Laws.Read.{good_offset, late_hours, late_minutes, minus_sign, not_five, not_signed, plus_sign}
 use Rattle.date_read.proofs.read.offset_of.Goals as goal
-use Rattle.date_read.proofs.read.offset_of.Goals.{then-sign-ne43+else-sign-ne45, else-sign-ne43}
+use Rattle.date_read.proofs.read.offset_of.Goals.{else-sign-ne43-via-then-sign-ne43+else-sign-ne45, else-sign-ne43-via-else-sign-ne43}
+use Rattle.date_read.proofs.read.offset_of.Goals.{then-hours-gt-LAST_HOUR-via-then-hours-gt-LAST_HOUR, then-hours-gt-LAST_HOUR-via-else-hours-gt-LAST_HOUR+then-minutes-gt-LAST_MINUTE}
 
 pub returns-then-s-ne5 : goal.returns-then-s-ne5
-unfolding offset_of
-returns-then-s-ne5 c = rw (ne_eqb _ _ c.if-s-ne5.true)
+returns-then-s-ne5 c = not_five c.args.s.now c.if-s-ne5.true
 
 pub returns-then-sign-ne45 : goal.returns-then-sign-ne45
-unfolding offset_of
-returns-then-sign-ne45 c = rw (eq-eqb _ _ c.if-s-ne5.false, ne_eqb _ _ c.if-sign-ne43.true, ne_eqb _ _ c.if-sign-ne45.true)
+returns-then-sign-ne45 c = not_signed c.args.s.now c.if-sign-ne43.true c.if-sign-ne45.true
+
+pub returns-in_err-hours : goal.returns-in_err-hours
+returns-in_err-hours c = rw c.from_residual.ensures (late_hours c.args.s.now (omega (arith, c.in_err-hours.ensures.value)))
+
+pub returns-in_err-minutes : goal.returns-in_err-minutes
+returns-in_err-minutes c =
+    rw c.from_residual-in_err-minutes.ensures (late_minutes c.args.s.now (omega (arith, c.in_err-minutes.ensures.value)))
 
 pub returns-then-hours-gt-LAST_HOUR : goal.returns-then-hours-gt-LAST_HOUR
 returns-then-hours-gt-LAST_HOUR c =
     let s = c.args.s.now in
-    late_hours s _ c.if-s-ne5.false
-    (elim c.if-sign-ne43.branch [
-      | then-sign-ne43+else-sign-ne45 w ↦ minus_sign _ w.if-sign-ne45.false
-      | else-sign-ne43 w ↦ plus_sign _ w.if-sign-ne43.false
-    ])
-    c.two_digits-hours.ensures c.if-hours-gt-LAST_HOUR.true
-
-pub returns-then-minutes-gt-LAST_MINUTE : goal.returns-then-minutes-gt-LAST_MINUTE
-returns-then-minutes-gt-LAST_MINUTE c =
-    let s = c.args.s.now in
-    late_minutes s _ _ c.if-s-ne5.false
-    (elim c.if-sign-ne43.branch [
-      | then-sign-ne43+else-sign-ne45 w ↦ minus_sign _ w.if-sign-ne45.false
-      | else-sign-ne43 w ↦ plus_sign _ w.if-sign-ne43.false
-    ])
-    c.two_digits-hours.ensures c.two_digits-minutes.ensures c.if-hours-gt-LAST_HOUR.false c.if-minutes-gt-LAST_MINUTE.true
+    elim c.then-hours-gt-LAST_HOUR.branch [
+      | then-hours-gt-LAST_HOUR-via-then-hours-gt-LAST_HOUR w ↦ late_hours s (omega (arith, c.in_ok-hours.ensures.value))
+      | then-hours-gt-LAST_HOUR-via-else-hours-gt-LAST_HOUR+then-minutes-gt-LAST_MINUTE w ↦ late_minutes s (omega (arith, c.in_ok-minutes.ensures.value))
+    ]
 
 pub returns : goal.returns
 returns c =
-    let s = c.args.s.now in
-    good_offset s _ _ _ c.if-s-ne5.false
-    (elim c.if-sign-ne43.branch [
-      | then-sign-ne43+else-sign-ne45 w ↦ minus_sign _ w.if-sign-ne45.false
-      | else-sign-ne43 w ↦ plus_sign _ w.if-sign-ne43.false
+    good_offset c.args.s.now _ _ _ c.if-s-ne5.false
+    (elim c.else-sign-ne43.branch [
+      | else-sign-ne43-via-then-sign-ne43+else-sign-ne45 w ↦ minus_sign _ w.if-sign-ne45.false
+      | else-sign-ne43-via-else-sign-ne43 w ↦ plus_sign _ w.if-sign-ne43.false
     ])
-    c.two_digits-hours.ensures c.two_digits-minutes.ensures c.if-hours-gt-LAST_HOUR.false c.if-minutes-gt-LAST_MINUTE.false c.signed_minutes.ensures
+    c.in_ok-hours.ensures.value c.in_ok-minutes.ensures.value c.if-hours-gt-LAST_HOUR.false c.if-minutes-gt-LAST_MINUTE.false c.signed_minutes.ensures

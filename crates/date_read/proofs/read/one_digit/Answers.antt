@@ -1,27 +1,22 @@
 -- `date_read::read::one_digit` meets its contract.
 -- Assumes nothing.
-use Rattle.std.proofs.Common.{◌∙◌, sym}
+use mathlib.Core.Path.{sym, ◌∙◌}
 use native.Mathlib.Omega.{arith}
 use Rattle.date_read.specs.Read.{one_digit}
-use Rattle.date_read.proofs.Laws.Read.{digit_low}
+use Rattle.date_read.proofs.Laws.Read.{digit_high, digit_low}
 use Rattle.date_read.proofs.read.one_digit.Goals as goal
 
-pub returns-then-not-is_digit : goal.returns-then-not-is_digit
-unfolding one_digit
-returns-then-not-is_digit c = rw (← c.byte_at-b.ensures, ← c.is_digit.ensures, c.if-not-is_digit.true)
+pub overflow_sub-b : goal.overflow_sub-b
+overflow_sub-b c = omega (arith, digit_low c.byte_at-b.result (sym c.is_digit.ensures ∙ c.if-is_digit.true))
 
-pub overflow_sub-result : goal.overflow_sub-result
-overflow_sub-result c =
-    let d = c in
-    omega (arith, c.wide.ensures, digit_low d.byte_at-b.result (sym d.is_digit.ensures ∙ d.if-not-is_digit.false))
-
-pub returns : goal.returns
+pub returns-then-is_digit-clause-value : goal.returns-then-is_digit-clause-value
 unfolding one_digit
-returns c =
-    let d = c in
-    rw (
-      ← d.byte_at-b.ensures,
-      ← d.is_digit.ensures,
-      d.if-not-is_digit.false,
-      c.wide.ensures,
-    )
+returns-then-is_digit-clause-value c = rw (← c.byte_at-b.ensures, ← c.is_digit.ensures, c.if-is_digit.true) c.from.ensures
+
+pub returns-then-is_digit-clause-most : goal.returns-then-is_digit-clause-most
+returns-then-is_digit-clause-most c =
+    omega (arith, c.from.ensures, digit_high c.byte_at-b.result (sym c.is_digit.ensures ∙ c.if-is_digit.true))
+
+pub returns-else-is_digit-clause-value : goal.returns-else-is_digit-clause-value
+unfolding one_digit
+returns-else-is_digit-clause-value c = rw (← c.byte_at-b.ensures, ← c.is_digit.ensures, c.if-is_digit.false)

@@ -17,6 +17,6 @@ returns-then-minus c =
     let n = c.args.n in
     rw c.if-minus.true (to_z-of_z w32 _ (negated_fits n (omega arith)) ∙ negated n (omega arith))
 
-pub returns : goal.returns
+pub returns-else-minus : goal.returns-else-minus
 unfolding signed
-returns c = rw c.if-minus.false (number_read c.args.n (omega arith))
+returns-else-minus c = rw c.if-minus.false (number_read c.args.n (omega arith))

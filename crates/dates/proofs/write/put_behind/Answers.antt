@@ -4,4 +4,4 @@ use Rattle.chars.proofs.Laws.Write.{wrote_then}
 use Rattle.dates.proofs.write.put_behind.Goals as goal
 
 pub returns : goal.returns
-returns c = wrote_then c.put_byte-next.ensures c.put_two.ensures
+returns c = wrote_then c.put-next.ensures c.put_two.ensures

@@ -6,12 +6,10 @@ use Rattle.chars.proofs.Laws.Write.{wrote_as, wrote_nothing}
 use Rattle.dates.specs.Write.{date_second_text, two}
 use Rattle.dates.proofs.write.put_date_second.Goals as goal
 
-pub returns-in-At : goal.returns-in-At
+pub returns-in-Some : goal.returns-in-Some
 unfolding date_second_text
-returns-in-At c =
-    wrote_as (58 ∷ two c.in-At.n) (date_second_text c.args.second) (ap date_second_text (sym c.in-At.is))
-    c.put_behind.ensures
+returns-in-Some c = wrote_as (58 ∷ two c.in-Some.n) (date_second_text c.args.second) (ap date_second_text (sym c.in-Some.is)) c.put_behind.ensures
 
-pub returns-in-Absent : goal.returns-in-Absent
+pub returns-in-None : goal.returns-in-None
 unfolding date_second_text
-returns-in-Absent c = wrote_as _ (date_second_text c.args.second) (ap date_second_text (sym c.in-Absent.is)) wrote_nothing
+returns-in-None c = wrote_as _ (date_second_text c.args.second) (ap date_second_text (sym c.in-None.is)) wrote_nothing

@@ -46,8 +46,8 @@ put_date_second-e-requires c =
       wrote-length c.put_behind-c.ensures,
     )
 
-pub put_byte-f-requires : goal.put_byte-f-requires
-put_byte-f-requires c =
+pub put-f-requires : goal.put-f-requires
+put-f-requires c =
     let d = c.args.d in
     omega (
       arith,
@@ -76,7 +76,7 @@ put_zone-requires c =
         wrote-length c.put_behind-c.ensures,
         date_second_length d.second,
         wrote-length c.put_date_second-e.ensures,
-        wrote-length c.put_byte-f.ensures,
+        wrote-length c.put-f.ensures,
       );
     }
 
@@ -89,4 +89,4 @@ returns c =
     wrote_as (front ++ zone_text (to_z w32 (of_z w32 d.offset))) (date_text d)
     (ap (λ (v : ℤ). front ++ zone_text v) (plain d.offset (bounds d c.requires.d_value).offset))
     (wrote_then (wrote_then (wrote_then (wrote_then
-    (wrote_then c.put_date_day-a.ensures c.put_behind-b.ensures) c.put_behind-c.ensures) c.put_date_second-e.ensures) c.put_byte-f.ensures) c.put_zone.ensures)
+    (wrote_then c.put_date_day-a.ensures c.put_behind-b.ensures) c.put_behind-c.ensures) c.put_date_second-e.ensures) c.put-f.ensures) c.put_zone.ensures)

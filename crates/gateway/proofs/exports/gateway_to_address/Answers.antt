@@ -13,10 +13,8 @@ pub pack_address-requires : goal.pack_address-requires
 unfolding record_to_address
 pack_address-requires c =
     let d = c.to_address in
-    let small =
-    address-counts (loaded_from c.args.table.now) c.read_record-done.result.«record» c.args.out.now d.new.out d.result
-    (table-number c.args.table.now) (loaded_rules c.args.table.now) d.ensures in
-    record { size_le_most_count = small.0; answer_bound = small.1 }
+    address-counts (loaded_from c.args.table.now) c.read_record.result.«record» c.args.out.now d.new.out d.result
+    (table-number c.args.table.now) (loaded_rules c.args.table.now) d.ensures
 
 pub returns : goal.returns
 unfolding record_to_address text_to_address
@@ -24,5 +22,5 @@ returns c =
     let d = c.to_address in
     exported (text_to_address c.args.table.now c.args.record_text.now c.args.out.now) d.result c.pack_address.result d.new.out
     (d.ensures
-    ∙ text_to_address_lem (loaded_from c.args.table.now) c.args.record_text.now c.args.out.now c.read_record-done.result c.read_record-done.ensures)
+    ∙ text_to_address_lem (loaded_from c.args.table.now) c.args.record_text.now c.args.out.now c.read_record.result c.read_record.ensures)
     c.pack_address.ensures

@@ -6,4 +6,4 @@ use Rattle.mapping.specs.ToAddress.{to_address_by}
 use Rattle.gateway_list.proofs.numbers.numbers_to_address.Goals as goal
 
 pub returns : goal.returns
-returns c = c.record_under.ensures ∙ ap (λ (x : TableOutcome). to_address_by x c.args.rec c.args.out.now) c.load_entries-read.ensures.answers
+returns c = c.record_under.ensures ∙ ap (λ (x : TableOutcome). to_address_by x c.args.rec c.args.out.now) c.read_list-read.ensures.answers

@@ -13,15 +13,13 @@ pub pack_address-requires : goal.pack_address-requires
 pack_address-requires c =
     let es = entries_of c.args.numbers.now c.args.n in
     let d = c.numbers_to_address in
-    let small =
-    address-counts (listed_from c.args.text.now es) c.read_record-done.result.«record» c.args.out.now d.new.out d.result
-    (listed_counted c.args.text.now es) (listed_rules c.args.text.now es) d.ensures in
-    record { size_le_most_count = small.0; answer_bound = small.1 }
+    address-counts (listed_from c.args.text.now es) c.read_record.result.«record» c.args.out.now d.new.out d.result
+    (listed_counted c.args.text.now es) (listed_rules c.args.text.now es) d.ensures
 
 pub returns : goal.returns
 returns c =
     let l = listed_from c.args.text.now (entries_of c.args.numbers.now c.args.n) in
     let d = c.numbers_to_address in
     exported (text_to_address_by l c.args.record_text.now c.args.out.now) d.result c.pack_address.result d.new.out
-    (d.ensures ∙ text_to_address_lem l c.args.record_text.now c.args.out.now c.read_record-done.result c.read_record-done.ensures)
+    (d.ensures ∙ text_to_address_lem l c.args.record_text.now c.args.out.now c.read_record.result c.read_record.ensures)
     c.pack_address.ensures

@@ -1,42 +1,32 @@
 -- `gateway_text::read::read_record` meets its contract.
 -- Assumes nothing.
-use mathlib.Core.Path.{ap, ◌∙◌}
+use mathlib.Core.Path.{refl, sym, ap, ◌∙◌}
+use Rattle.std.proofs.Common.{Ok, Err}
 use Rattle.oraddr.specs.Add.{told}
-use Rattle.ortext_read.specs.Answers.{answered, reading}
-use Rattle.ortext_read.specs.Apply.{again, read, refused, unread}
-use Rattle.ortext_read.specs.declared.read.Answer.{Answer}
-use Rattle.gateway_text.specs.Texts.{read_outcome}
-use Rattle.gateway_text.proofs.Laws.Texts.{read-outcome}
+use Rattle.oraddr.specs.declared.record.Record.{Record}
+use Rattle.oraddr.specs.declared.add.Added.TheVariants.{Refused}
+use Rattle.ortext_read.specs.Answers.{fault_reading, reading}
+use Rattle.ortext_read.specs.Apply.{read}
+use Rattle.gateway_text.proofs.Laws.Texts.{outcome-done, outcome-fault, outcome-not, read-outcome}
+use Rattle.gateway_text.proofs.read.read_record.Goals.{in_default-via-in-Ok+else-is_canonical, in_default-via-in_default}
 use Rattle.gateway_text.proofs.read.read_record.Goals as goal
 
-pub returns-in-Done : goal.returns-in-Done
+pub returns-in-Ok : goal.returns-in-Ok
 unfolding reading
-returns-in-Done c =
-    let x = c.read_text-done.result in
-    c.if_canonical.ensures
-    ∙ read-outcome c.empty.result c.args.text.now x (read x.«record») c.empty.ensures c.read_text-done.ensures
-    (ap (λ (y : Answer). answered y x.«record») c.in-Done.is)
+returns-in-Ok c =
+    let r = c.in-Ok.record in
+    outcome-done r (sym c.is_canonical.ensures ∙ c.if-is_canonical.true)
+    ∙ read-outcome c.empty.result c.args.text.now (Ok r) (read r) c.empty.ensures c.in-Ok.ensures refl
 
-pub returns-in-Unread : goal.returns-in-Unread
-unfolding reading read_outcome
-returns-in-Unread c =
-    let x = c.read_text-done.result in
-    ap told c.no_record.ensures
-    ∙ read-outcome c.empty.result c.args.text.now x unread c.empty.ensures c.read_text-done.ensures
-    (ap (λ (y : Answer). answered y x.«record») c.in-Unread.is)
-
-pub returns-in-Refused : goal.returns-in-Refused
-unfolding reading read_outcome
-returns-in-Refused c =
-    let x = c.read_text-done.result in
-    ap told c.no_record-in-Refused.ensures
-    ∙ read-outcome c.empty.result c.args.text.now x refused c.empty.ensures c.read_text-done.ensures
-    (ap (λ (y : Answer). answered y x.«record») c.in-Refused.is)
-
-pub returns-in-Again : goal.returns-in-Again
-unfolding reading read_outcome
-returns-in-Again c =
-    let x = c.read_text-done.result in
-    ap told c.no_record-in-Again.ensures
-    ∙ read-outcome c.empty.result c.args.text.now x again c.empty.ensures c.read_text-done.ensures
-    (ap (λ (y : Answer). answered y x.«record») c.in-Again.is)
+pub returns-in_default : goal.returns-in_default
+unfolding reading
+returns-in_default c =
+    ap (λ (q : Record). told (record { «record» = q; answer = Refused })) c.empty-in_default.ensures
+    ∙ elim c.in_default.branch [
+      | in_default-via-in-Ok+else-is_canonical w ↦
+          outcome-not w.in-Ok.record (sym w.is_canonical.ensures ∙ w.if-is_canonical.false)
+          ∙ read-outcome c.empty.result c.args.text.now (Ok w.in-Ok.record) (read w.in-Ok.record) c.empty.ensures w.in-Ok.ensures refl
+      | in_default-via-in_default w ↦
+          outcome-fault w.in_default.field-0
+          ∙ read-outcome c.empty.result c.args.text.now (Err w.in_default.field-0) (fault_reading w.in_default.field-0) c.empty.ensures w.in_default.ensures refl
+    ]

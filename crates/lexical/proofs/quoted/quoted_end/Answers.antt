@@ -2,7 +2,6 @@
 -- Assumes nothing.
 use mathlib.Core.Path.{sym, ◌∙◌}
 use native.Mathlib.Omega.{arith}
-use Rattle.mailaddr.specs.Answers.{closing_answer}
 use Rattle.lexical.proofs.Laws.Quoted.{end_break, end_close, end-end, end_escape, end-fold, end_keep, fold-inside}
 use Rattle.lexical.proofs.quoted.quoted_end.Goals as goal
 
@@ -17,7 +16,6 @@ loop-i-preserved-in-Fold c =
     l.invariant ∙ end-fold c.args.s.now l.i l.escaped (omega arith) (sym c.in-Fold.ensures)
 
 pub returns-in-Close : goal.returns-in-Close
-unfolding closing_answer
 returns-in-Close c =
     let l = c.loop-i in
     sym (l.invariant ∙ end_close c.args.s.now l.i l.escaped (omega arith) (sym c.in-Close.ensures))
@@ -33,11 +31,9 @@ loop-i-preserved c =
     l.invariant ∙ end_keep c.args.s.now l.i l.escaped (omega arith) (sym c.in-Keep.ensures)
 
 pub returns-in-Break : goal.returns-in-Break
-unfolding closing_answer
 returns-in-Break c =
     let l = c.loop-i in
     sym (l.invariant ∙ end_break c.args.s.now l.i l.escaped (omega arith) (sym c.in-Break.ensures))
 
 pub returns : goal.returns
-unfolding closing_answer
 returns c = sym (c.loop-i.invariant ∙ end-end c.args.s.now c.loop-i.i c.loop-i.escaped (omega arith))

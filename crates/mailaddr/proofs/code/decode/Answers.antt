@@ -13,23 +13,16 @@ loop-i-init c =
     let a = c.args in
     (omega arith, omega arith, refl, decoding-start a.s.now a.dst.now)
 
-pub shape_of-dst-then-len-eq0 : goal.shape_of-dst-then-len-eq0
-shape_of-dst-then-len-eq0 c = c.loop-i.invariant.2
-
-pub returns-then-len-eq0 : goal.returns-then-len-eq0
-unfolding Decoding
-returns-then-len-eq0 c = decoding-none c.loop-i.invariant.3 c.group_at-g.ensures c.if-len-eq0.true
-
 pub overflow_add-i : goal.overflow_add-i
-overflow_add-i c = omega (arith, c.group_at-g.ensures.fits)
+overflow_add-i c = omega (arith, c.in_ok-group.ensures.spans)
 
 pub loop-i-smaller : goal.loop-i-smaller
-loop-i-smaller c = omega (arith, c.group_at-g.ensures.fits)
+loop-i-smaller c = omega (arith, c.in_ok-group.ensures.spans)
 
 pub loop-i-preserved : goal.loop-i-preserved
 loop-i-preserved c =
     let l = c.loop-i in
-    (omega arith, omega arith, length-set l.dst l.n _ ∙ l.invariant.2, decoding_step l.invariant.3 c.group_at-g.ensures c.if-len-eq0.false)
+    (omega (arith, c.in_ok-group.ensures.spans), omega arith, length-set l.dst l.n _ ∙ l.invariant.2, decoding_step l.invariant.3 c.in_ok-group.ensures)
 
 pub shape_of-dst : goal.shape_of-dst
 shape_of-dst c = c.loop-i.invariant.2
@@ -37,3 +30,7 @@ shape_of-dst c = c.loop-i.invariant.2
 pub returns : goal.returns
 unfolding Decoding
 returns c = decoding-end c.loop-i.invariant.3 (omega arith) (omega arith)
+
+pub returns-in_err-group : goal.returns-in_err-group
+unfolding Decoding
+returns-in_err-group c = rw c.from_residual.ensures (decoding-none c.loop-i.invariant.3 c.in_err-group.ensures)

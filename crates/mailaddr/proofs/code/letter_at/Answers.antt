@@ -4,6 +4,7 @@ use mathlib.Core.Path.{sym, ap, ◌∙◌}
 use Prim.Native.Nat.{◌+◌}
 use borrow.Author.Tests.{eq-eqb, ne_eqb}
 use lib.ListN.{get_or}
+use Rattle.mailaddr.specs.Answers.{unless_zero}
 use Rattle.mailaddr.specs.Code.{char_of}
 use Rattle.mailaddr.proofs.Laws.Code.{letter_there}
 use Rattle.mailaddr.proofs.code.letter_at.Goals as goal
@@ -19,4 +20,4 @@ returns c =
     let a = c.args in
     let s = a.s.now in
     rw (letter_there s a.at, eq-eqb (get_or s (a.at + 1) 0) 41 (sym c.byte_at.ensures ∙ c.if-byte_at-ne41.false))
-    (c.char_of.ensures ∙ ap char_of c.byte_at-2.ensures)
+    (c.char_of.ensures ∙ ap (λ b. unless_zero (char_of b)) c.byte_at-2.ensures)

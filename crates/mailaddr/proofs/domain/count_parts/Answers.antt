@@ -1,22 +1,19 @@
--- `mailaddr::domain::count_parts` meets its contract. The loop's invariant: the parts counted and those of what is left
--- are one more than the parts, since the part that `i` stands in is in both.
+-- `mailaddr::domain::count_parts` meets its contract: there is one part more than there are dots.
 -- Assumes nothing.
-use native.Mathlib.Omega.{arith}
-use borrow.Author.Tests.{eq-eqb, ne_eqb}
-use Rattle.mailaddr.proofs.Laws.Domain.{count_byte, count_dot, count-end}
+use Rattle.std.proofs.Common.{rules, ◌≡◌, arith, ap, length, eqb}
+use Rattle.std.specs.List.{filter}
+use Rattle.std.proofs.lemmas.Iterator.{YieldsList-from_slice}
+use Rattle.std.proofs.lemmas.Iterator.Consumers.{YieldsList-from_filter, count_from_yields_List}
+use Rattle.std.proofs.lemmas.List.Sums.{length-filter}
+use Rattle.std.proofs.lemmas.List.Splits.{length-slice_split}
+use borrow.Author.Tests.{tests}
+use Rattle.mailaddr.proofs.Laws.Domain.{split_is}
 use Rattle.mailaddr.proofs.domain.count_parts.Goals as goal
-use Rattle.mailaddr.proofs.domain.count_parts.Goals.{then-s-i-eq46, else-s-i-eq46}
-
-pub loop-i-preserved : goal.loop-i-preserved
-loop-i-preserved c =
-    let l = c.loop-i in
-    let a = c.args in
-    elim c.if-s-i-eq46.branch [
-      | then-s-i-eq46 w ↦ omega (arith, count_dot a.s.now l.i (omega arith) (eq-eqb _ _ w.if-s-i-eq46.true))
-      | else-s-i-eq46 w ↦ omega (arith, count_byte a.s.now l.i (omega arith) (ne_eqb _ _ w.if-s-i-eq46.false))
-    ]
 
 pub returns : goal.returns
 returns c =
-    let a = c.args in
-    omega (arith, c.loop-i.invariant, count-end a.s.now c.loop-i.i (omega arith))
+    let s = c.args.s.now in
+    let n : c.count.result ≡ length (filter (λ b. eqb b 46) s) =
+    count_from_yields_List c.filter.result c.count.result c.count.ensures.ran
+    (YieldsList-from_filter _ (λ b. eqb b 46) (YieldsList-from_slice s cc) c.filter.ensures.closure (λ x b q k. search (rules, tests))) in
+    omega (arith, n, length-filter (λ b. eqb b 46) s, length-slice_split (λ b. eqb b 46) s, ap length (split_is s))

@@ -11,6 +11,7 @@ use Rattle.mailaddr.specs.Domain.{parts_of}
 use Rattle.mailaddr.proofs.Laws.Domain.{parts_left, start-within}
 use Rattle.mailaddr.proofs.Laws.Tail.{spread, spread_differ, spread_first, spread_more, spread_same, spread_second, tail_at, tail-length}
 use Rattle.mailaddr.proofs.tail.tail_start.Goals as goal
+use Rattle.mailaddr.proofs.tail.tail_start.Goals.{then-p-eq0-via-then-p-eq0, then-p-eq0-via-else-p-eq0+then-q-eq0}
 
 -- the numbers of a turn that goes on before the dot: n is the length, t what all shared parts take, s and m what is shared
 -- before and after the turn
@@ -50,20 +51,14 @@ returns-then-p-eq0 c =
     let q = c.part_start-q in
     let same = spread_same a b l.i l.j p.result q.result l.invariant.0 l.invariant.1 p.ensures q.ensures
     (sym c.same_text.ensures ∙ c.if-not-same_text.false) in
-    tail_at a b p.result (omega (arith, p.ensures))
-    (omega (arith, l.invariant.3, same, spread_first a p.result (parts_left b q.result) c.if-p-eq0.true))
-
-pub returns-then-q-eq0 : goal.returns-then-q-eq0
-returns-then-q-eq0 c =
-    let a = c.args.a.now in
-    let b = c.args.b.now in
-    let l = c.loop-start in
-    let p = c.part_start-p in
-    let q = c.part_start-q in
-    let same = spread_same a b l.i l.j p.result q.result l.invariant.0 l.invariant.1 p.ensures q.ensures
-    (sym c.same_text.ensures ∙ c.if-not-same_text.false) in
-    tail_at a b p.result (omega (arith, p.ensures))
-    (omega (arith, l.invariant.3, same, spread_second (parts_left a p.result) b q.result c.if-q-eq0.true))
+    elim c.then-p-eq0.branch [
+      | then-p-eq0-via-then-p-eq0 w ↦
+          tail_at a b p.result (omega (arith, p.ensures))
+          (omega (arith, l.invariant.3, same, spread_first a p.result (parts_left b q.result) w.if-p-eq0.true))
+      | then-p-eq0-via-else-p-eq0+then-q-eq0 w ↦
+          tail_at a b p.result (omega (arith, p.ensures))
+          (omega (arith, l.invariant.3, same, spread_second (parts_left a p.result) b q.result w.if-q-eq0.true))
+    ]
 
 pub loop-start-smaller : goal.loop-start-smaller
 loop-start-smaller c =

@@ -1,27 +1,35 @@
--- `mailbox::entry::read_mailbox` meets its contract: each test is one of the definition's, in its order.
+-- `mailbox::entry::read_mailbox` meets its contract: the parts of the buffer of words are the mailbox's texts, and what was placed says which answer
+-- it is.
 -- Assumes nothing.
-use mathlib.Core.Path.{sym, ◌∙◌}
-use native.Mathlib.Omega.{arith}
-use Rattle.chars.specs.Write.{refused_text}
-use Rattle.mailbox.specs.Mailbox.{mailbox_by, place_by, place_in, read_mailbox, text_by}
-use Rattle.mailbox.proofs.Laws.Written.{reading_deep, reading-line, reading_long}
+use Rattle.std.proofs.Common.{◌∙◌, refl, sym, ap}
+use Rattle.std.proofs.lemmas.Result.{err_from_is_err_and}
+use Rattle.chars.proofs.Laws.Seq.{drop-take}
+use Rattle.mailbox.specs.Answers.{bare_at}
+use Rattle.mailbox.specs.Mailbox.{Reading, bare_text, mailbox_by, read_mailbox, reading}
+use Rattle.mailbox.proofs.Laws.Written.{written-done, written-refused, written-short}
 use Rattle.mailbox.proofs.entry.read_mailbox.Goals as goal
 
-pub returns-then-line-gt-LONGEST_LINE : goal.returns-then-line-gt-LONGEST_LINE
-unfolding read_mailbox mailbox_by text_by place_in place_by refused_text
-returns-then-line-gt-LONGEST_LINE c =
-    let s = c.args.line.now in
-    rw (c.refused.ensures, reading_long s (omega arith))
+pub returns-in_err-m : goal.returns-in_err-m
+unfolding read_mailbox
+returns-in_err-m c =
+    let p = err_from_is_err_and c.from_residual.result c.from_residual.ensures.1 in
+    rw (p.1, p.2) (written-refused (reading c.args.line.now) c.in_err-m.field-0.0 c.args.out.now c.in_err-m.ensures.told)
 
-pub returns-then-nests_too_deep : goal.returns-then-nests_too_deep
-unfolding read_mailbox mailbox_by text_by place_in place_by refused_text
-returns-then-nests_too_deep c =
-    let s = c.args.line.now in
-    rw (c.refused-then-nests_too_deep.ensures, reading_deep s (omega arith) (sym c.nests_too_deep.ensures ∙ c.if-nests_too_deep.true))
+pub returns-in_default : goal.returns-in_default
+unfolding read_mailbox bare_text
+returns-in_default c =
+    let m = c.in_ok-m.m in
+    let w = c.read_line.new.words in
+    let k = c.in_default.ensures in
+    written-short (bare_at m w) c.args.out.now c.place_bare.new.out (rw (drop-take m.local m.size w) k.buffer) (rw (drop-take m.local m.size w) k.size)
+    ∙ ap (λ (r : Reading). mailbox_by r c.args.out.now) (sym c.in_ok-m.ensures.told)
 
 pub returns : goal.returns
-unfolding read_mailbox
+unfolding read_mailbox bare_text
 returns c =
-    let a = c.args in
-    let d = c.nests_too_deep in
-    rw (reading-line a.line.now (omega arith) (sym d.ensures ∙ c.if-nests_too_deep.false)) c.read_short.ensures
+    let m = c.in_ok-m.m in
+    let w = c.read_line.new.words in
+    let k = c.in-Some.ensures in
+    written-done (bare_at m w) c.args.out.now c.place_bare.new.out (rw (drop-take m.local m.size w) k.buffer)
+    (record { size = c.in-Some.size; phrase = m.phrase }) (rw (drop-take m.local m.size w) k.size) refl
+    ∙ ap (λ (r : Reading). mailbox_by r c.args.out.now) (sym c.in_ok-m.ensures.told)

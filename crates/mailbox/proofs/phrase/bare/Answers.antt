@@ -2,11 +2,16 @@
 -- Assumes nothing.
 use Rattle.lexical.specs.Answers.{tokens_of}
 use Rattle.mailbox_address.specs.Grammar.{addr_spec}
-use Rattle.mailbox.proofs.Laws.Read.{mailbox-reads}
+use Rattle.mailbox.proofs.Laws.Read.{mailbox-reads, mailbox-unread}
 use Rattle.mailbox.proofs.phrase.bare.Goals as goal
+
+pub returns-in_err-a : goal.returns-in_err-a
+returns-in_err-a c =
+    let a = c.args in
+    rw c.from_residual.ensures
+    (mailbox-unread a.s.now c.addr_spec.new.dst 0 0 (addr_spec (tokens_of a.s.now a.word)) c.in_err-a.ensures.told)
 
 pub returns : goal.returns
 returns c =
     let a = c.args in
-    let p = c.addr_spec-a in
-    mailbox-reads a.s.now p.new.dst p.result 0 0 (addr_spec (tokens_of a.s.now a.word)) c.mailbox_of.result p.ensures c.mailbox_of.ensures
+    mailbox-reads a.s.now c.addr_spec.new.dst c.in_ok-a.a 0 0 (addr_spec (tokens_of a.s.now a.word)) c.mailbox_of.result c.in_ok-a.ensures c.mailbox_of.ensures

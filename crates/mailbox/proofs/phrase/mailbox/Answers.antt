@@ -1,7 +1,6 @@
 -- `mailbox::phrase::mailbox` meets its contract: what stands behind the first word says which of the two a mailbox can be.
 -- Assumes nothing.
 use mathlib.Core.Path.{refl, sym, ◌∙◌}
-use native.Mathlib.Omega.{arith}
 use Rattle.mailbox.specs.Answers.{told_mailbox}
 use Rattle.mailbox.specs.Mailbox.{bare_in, bare_of}
 use Rattle.mailbox.proofs.Laws.Read.{mailbox-bare, mailbox-named, mailbox-none}
@@ -12,8 +11,7 @@ unfolding bare_in bare_of told_mailbox
 returns-then-not-is_word c =
     let a = c.args in
     let n = c.next_token-word in
-    rw (c.no_mailbox.ensures, n.ensures.tokens, mailbox-none a.s.now n.result (sym c.is_word.ensures ∙ c.if-not-is_word.true))
-    (record { told = refl; parted = omega arith; high = omega arith })
+    rw (n.ensures.tokens, mailbox-none a.s.now n.result (sym c.is_word.ensures ∙ c.if-not-is_word.true)) (record { told = refl; sizes = tt })
 
 pub returns-then-goes_on : goal.returns-then-goes_on
 unfolding bare_in

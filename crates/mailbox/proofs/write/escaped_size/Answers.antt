@@ -12,33 +12,32 @@ use Rattle.mailbox.proofs.write.escaped_size.Goals as goal
 pub overflow_add-n : goal.overflow_add-n
 overflow_add-n c =
     let s = c.args.s.now in
-    let l = c.loop-i in
+    let l = c.loop-b in
     omega (
       arith,
       l.invariant,
       c.escaped_byte_size-n.ensures,
-      ap length (escaped_step s l.i (omega arith)),
-      length-append (escaped (get_or s l.i 0 ∷ [])) (escaped (drop (l.i + 1) s)),
+      ap length (escaped_step s l.b-index (omega arith)),
+      length-append (escaped (get_or s l.b-index 0 ∷ [])) (escaped (drop (l.b-index + 1) s)),
       length-escaped s,
-      c.requires,
     )
 
-pub loop-i-preserved : goal.loop-i-preserved
-loop-i-preserved c =
+pub loop-b-preserved : goal.loop-b-preserved
+loop-b-preserved c =
     let s = c.args.s.now in
-    let l = c.loop-i in
+    let l = c.loop-b in
     omega (
       arith,
       l.invariant,
       c.escaped_byte_size-n.ensures,
-      ap length (escaped_step s l.i (omega arith)),
-      length-append (escaped (get_or s l.i 0 ∷ [])) (escaped (drop (l.i + 1) s)),
+      ap length (escaped_step s l.b-index (omega arith)),
+      length-append (escaped (get_or s l.b-index 0 ∷ [])) (escaped (drop (l.b-index + 1) s)),
     )
 
 pub returns : goal.returns
 unfolding escaped
 returns c =
-    let l = c.loop-i in
+    let l = c.loop-b in
     let s = c.args.s.now in
-    let h : length s ≤ l.i = omega arith in
+    let h : length s ≤ l.b-index = omega arith in
     omega (arith, l.invariant, ap (λ (t : List ℕ). length (escaped t)) (drop_of_length-le s h))

@@ -3,7 +3,7 @@
 use native.Mathlib.Omega.{arith}
 use Rattle.chars.proofs.Laws.Write.{wrote_nothing}
 use Rattle.mailbox_address.specs.Answers.{meaning_at, meaning_by}
-use Rattle.mailbox_address.proofs.Laws.Lexeme.{meaning-length}
+use Rattle.mailbox_address.proofs.Laws.Lexeme.{meaning-length, no_meaning}
 use Rattle.mailbox_address.proofs.read.put_word.Goals as goal
 
 pub put_quoted-requires-clause-s_in_bounds : goal.put_quoted-requires-clause-s_in_bounds
@@ -20,14 +20,5 @@ pub returns-in-Quoted : goal.returns-in-Quoted
 unfolding meaning_at meaning_by
 returns-in-Quoted c = rw c.in-Quoted.is c.put_quoted.ensures
 
-pub returns-in-Special : goal.returns-in-Special
-unfolding meaning_at meaning_by
-returns-in-Special c = rw c.in-Special.is wrote_nothing
-
-pub returns-in-End : goal.returns-in-End
-unfolding meaning_at meaning_by
-returns-in-End c = rw c.in-End.is wrote_nothing
-
-pub returns-in-Bad : goal.returns-in-Bad
-unfolding meaning_at meaning_by
-returns-in-Bad c = rw c.in-Bad.is wrote_nothing
+pub returns-in_default : goal.returns-in_default
+returns-in_default c = rw (no_meaning c.args.s.now c.args.t c.in_default.not-Atom c.in_default.not-Quoted) wrote_nothing

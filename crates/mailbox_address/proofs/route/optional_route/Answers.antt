@@ -1,6 +1,6 @@
 -- `mailbox_address::route::optional_route` meets its contract.
 -- Assumes nothing.
-use mathlib.Core.Path.{sym, ◌∙◌}
+use Rattle.std.proofs.Common.{◌∙◌, sym}
 use Rattle.mailbox_address.specs.Answers.{told_route}
 use Rattle.mailbox_address.proofs.Laws.Route.{no_route, optional_route_is}
 use Rattle.mailbox_address.proofs.route.optional_route.Goals as goal
@@ -9,7 +9,7 @@ pub returns-then-is_word : goal.returns-then-is_word
 unfolding told_route
 returns-then-is_word c =
     let a = c.args in
-    record { told = sym (no_route a.s.now a.first (sym c.is_word.ensures ∙ c.if-is_word.true)); stands = c.requires.stands }
+    record { told = sym (no_route a.s.now a.first (sym c.is_word.ensures ∙ c.if-is_word.true)); stands = c.requires }
 
 pub returns : goal.returns
 returns c =

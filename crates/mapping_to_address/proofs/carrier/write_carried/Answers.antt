@@ -9,6 +9,6 @@ use Rattle.mapping_to_address.proofs.carrier.write_carried.Goals as goal
 pub returns : goal.returns
 unfolding carried_address dd_view
 returns c =
-    let e : dd_value_view c.item-item.result.value ≡ carried_value (dds_view c.args.dds) = ap (λ d. d.value) c.item-item.ensures
+    let e : dd_value_view c.item.result.value ≡ carried_value (dds_view c.args.dds) = ap (λ d. d.value) c.item.ensures
     ∙ first-value (dds_view c.args.dds) in
     rw e at c.write_value.ensures

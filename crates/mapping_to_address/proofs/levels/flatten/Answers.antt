@@ -14,7 +14,7 @@ use Rattle.mapping_to_address.proofs.levels.flatten.Goals as goal
 pub loop-k-init : goal.loop-k-init
 loop-k-init c =
     let a = c.args in
-    (search rules, search rules, search rules, search rules, filled_none (levels (view a.rec)) a.flat.now a.ends.now (search rules))
+    (search rules, search rules, search rules, filled_none (levels (view a.rec)) a.flat.now a.ends.now (search rules))
 
 pub loop-k-preserved : goal.loop-k-preserved
 loop-k-preserved c =
@@ -22,11 +22,10 @@ loop-k-preserved c =
     let p = c.put_level-n in
     let w = p.ensures.wrote in
     let l = p.ensures.short in (
-      omega arith,
-      wrote-length w ∙ at.invariant.1,
-      length-set at.ends (at.k + 1) p.result ∙ at.invariant.2,
+      wrote-length w ∙ at.invariant.0,
+      length-set at.ends (at.k + 1) p.result ∙ at.invariant.1,
       omega (arith, w.moved),
-      filled_more (levels (view c.args.rec)) at.flat p.new.dst at.ends at.k at.n p.result (omega arith) w (omega (arith, w.moved)) at.invariant.4,
+      filled_more (levels (view c.args.rec)) at.flat p.new.dst at.ends at.k at.n p.result (omega arith) w (omega (arith, w.moved)) at.invariant.3,
     )
 
 pub returns : goal.returns
@@ -39,4 +38,4 @@ returns c =
     let ls = levels (view c.args.rec) in
     let e : at.k ≡ 8 = omega arith in
     filled-all ls at.n at.flat at.ends the_eight (omega arith) (omega arith) (omega arith)
-    (subst (λ (k : ℕ). Filled ls k at.n at.flat at.ends) e at.invariant.4)
+    (subst (λ (k : ℕ). Filled ls k at.n at.flat at.ends) e at.invariant.3)

@@ -9,4 +9,4 @@ pub returns : goal.returns
 unfolding record_to_address
 returns c =
     let a = c.args in
-    c.record_under.ensures ∙ ap (λ (x : TableOutcome). to_address_by x a.rec a.out.now) c.load-read.ensures.answers
+    c.record_under.ensures ∙ ap (λ (x : TableOutcome). to_address_by x a.rec a.out.now) c.read_table.ensures.answers

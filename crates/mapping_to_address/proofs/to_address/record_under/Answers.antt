@@ -1,29 +1,17 @@
 -- `mapping_to_address::to_address::record_under` meets its contract: under the table that was read, or with the number of its first bad line.
 -- Assumes nothing.
-use mathlib.Core.Path.{ap, ◌∙◌}
-use Rattle.table_load.specs.Load.{Kept}
-use Rattle.mapping.specs.Answers.{told_address}
-use Rattle.mapping.specs.declared.answers.ToAddress.{ToAddress}
-use Rattle.mapping.proofs.Laws.Route.{answer-malformed, answer-table}
+use Rattle.std.proofs.lemmas.Result.{err_from_is_err_and}
+use Rattle.mapping.specs.Answers.{address_bad_line, address_number, told_address}
+use Rattle.mapping.specs.Results.{malformed_address}
+use Rattle.mapping.specs.ToAddress.{to_address_by}
 use Rattle.mapping_to_address.proofs.to_address.record_under.Goals as goal
 
-pub map_record-requires : goal.map_record-requires
-map_record-requires c =
-    let the_kept : let a = c.args in
-    Kept a.text.now a.to_path.now a.to_domain.now c.in-Table.t =
-    rw c.in-Table.is at c.requires in
-    let k = the_kept in
-    record { row_inside = k.gateway; sorted = k.domains }
+pub returns-in_err-read : goal.returns-in_err-read
+unfolding told_address address_number address_bad_line to_address_by malformed_address
+returns-in_err-read c =
+    let e = err_from_is_err_and c.from_residual.result c.from_residual.ensures.1 in
+    rw (c.in_err-read.was, e.1, e.2)
 
-pub returns-in-Table : goal.returns-in-Table
-returns-in-Table c =
-    let a = c.args in
-    rw c.in-Table.is
-    (c.map_record.ensures ∙ answer-table a.text.now a.to_path.now a.to_domain.now a.rec a.out.now c.in-Table.t)
-
-pub returns-in-Malformed : goal.returns-in-Malformed
-returns-in-Malformed c =
-    let a = c.args in
-    rw c.in-Malformed.is
-    (ap (λ (r : ToAddress). told_address r a.out.now) c.refused.ensures
-    ∙ answer-malformed a.text.now a.to_path.now a.to_domain.now a.rec a.out.now c.in-Malformed.line)
+pub returns : goal.returns
+unfolding to_address_by
+returns c = rw c.in_ok-read.was c.map_record.ensures

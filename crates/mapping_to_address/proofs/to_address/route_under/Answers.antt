@@ -7,38 +7,41 @@ use Prim.Native.Nat.{ℕ, ◌+◌, ◌≤◌}
 use native.Mathlib.Nat.{zero-add}
 use native.Mathlib.Omega.{arith}
 use lib.ListN.{length}
+use Rattle.std.proofs.Common.{refl, Option, Some, None, unwrap_or}
 use Rattle.chars.specs.Case.{same_text}
-use Rattle.table_lookup.specs.Looked.{level_tokens}
+use Rattle.table.specs.Rows.{between, row_at}
 use Rattle.table_lookup.specs.Lookup.{begins}
-use Rattle.table.specs.Rows.{row_at}
+use Rattle.table_lookup.specs.Looked.{level_tokens}
+use Rattle.table_lookup.specs.Tokens.{tokens_of}
 use Rattle.table_lookup.proofs.Laws.Begins.{begins-length}
-use Rattle.mapping.proofs.Laws.Route.{length-tokens, routed_under}
+use Rattle.mapping.proofs.Laws.Route.{few_more, length-row, length-tokens, routed_under}
 use Rattle.mapping_to_address.proofs.to_address.route_under.Goals as goal
 
-matched : (b : Bool) (n k : ℕ) → k ≡ cond b (0 + n) 0 → b ≡ true → k ≡ n
-matched b n k e h = e ∙ rw h (zero-add n)
+matched : (b : Bool) (n : ℕ) (o : Option ℕ) → o ≡ cond b (Some (0 + n)) None → b ≡ true → unwrap_or o 0 ≡ n
+matched b n o e h = rw (e, h) (zero-add n)
 
 -- a path that begins the levels has no more of them than there are
 few_own : (p q : List (List ℕ)) (k : ℕ) → k ≡ length p → begins p q ≡ true → length q ≡ 8 → k ≤ 8
 few_own p q k e h l = omega (arith, begins-length same_text p q h)
 
-pub count_extension-more-requires : goal.count_extension-more-requires
-unfolding level_tokens row_at
-count_extension-more-requires c =
+pub invariant_of-result : goal.invariant_of-result
+unfolding between row_at level_tokens
+invariant_of-result c =
     let a = c.args in
-    let q = level_tokens a.flat.now a.ends.now in
-    let o = matched (begins (row_at a.text.now a.row).path q) (length (row_at a.text.now a.row).path) c.match_path-own.result
-    c.match_path-own.ensures c.requires.ends_value in
-    let f = few_own (row_at a.text.now a.row).path q c.match_path-own.result o c.requires.ends_value (length-tokens a.flat.now a.ends.now) in
-    (f, c.requires.ended)
+    let q = tokens_of a.levels.now in
+    let l = length-tokens a.levels.now.bytes.now a.levels.now.ends.now in
+    let o = c.unwrap_or-own.ensures ∙ matched (begins (row_at a.text.now a.row).path q) (length (row_at a.text.now a.row).path) c.match_path-matched.result
+    c.match_path-matched.ensures c.requires.begins in
+    record {
+      short = length-row a.text.now a.row c.requires.row_inside;
+      few = few_more q c.unwrap_or-own.result c.count_extension.result l (few_own (row_at a.text.now a.row).path q c.unwrap_or-own.result o c.requires.begins l) c.count_extension.ensures;
+    }
 
 pub returns : goal.returns
-unfolding level_tokens row_at
+unfolding row_at level_tokens
 returns c =
     let a = c.args in
-    let q = level_tokens a.flat.now a.ends.now in
-    let o = matched (begins (row_at a.text.now a.row).path q) (length (row_at a.text.now a.row).path) c.match_path-own.result
-    c.match_path-own.ensures c.requires.ends_value in
-    let f = few_own (row_at a.text.now a.row).path q c.match_path-own.result o c.requires.ends_value (length-tokens a.flat.now a.ends.now) in
-    routed_under a.text.now a.row q c.match_path-own.result c.count_extension-more.result
-    c.requires.row_inside (length-tokens a.flat.now a.ends.now) f o c.count_extension-more.ensures
+    let q = tokens_of a.levels.now in
+    let o = c.unwrap_or-own.ensures ∙ matched (begins (row_at a.text.now a.row).path q) (length (row_at a.text.now a.row).path) c.match_path-matched.result
+    c.match_path-matched.ensures c.requires.begins in
+    routed_under a.text.now a.row q _ refl o c.count_extension.ensures

@@ -14,15 +14,14 @@ use Rattle.mapping.proofs.Laws.Carrier.{carrying-done, carrying_long, front_is}
 use Rattle.mapping_to_record.proofs.carrier.carry.Goals as goal
 
 pub returns-then-n-gt-LONGEST_CODED : goal.returns-then-n-gt-LONGEST_CODED
-unfolding row_at record_number record_bad_line refused_record
+unfolding row_at told_record record_number record_bad_line refused_record
 returns-then-n-gt-LONGEST_CODED c =
     let a = c.args in
-    c.refused.ensures
-    ∙ carrying_long (fields_at a.text.now a.gateway.path a.gateway.path_end) a.s.now
+    carrying_long (fields_at a.text.now a.gateway.path a.gateway.path_end) a.s.now
     (omega (arith, c.put_coded-n.ensures.value, c.if-n-gt-LONGEST_CODED.true))
 
 pub returns : goal.returns
-unfolding row_at bytes told_record record_number record_bad_line mapped
+unfolding row_at bytes told_record mapped
 returns c =
     let a = c.args in
     let n = c.put_coded-n.result in

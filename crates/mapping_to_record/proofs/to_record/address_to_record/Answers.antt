@@ -9,4 +9,4 @@ pub returns : goal.returns
 unfolding address_to_record
 returns c =
     let a = c.args in
-    c.address_under.ensures ∙ ap (λ (x : TableOutcome). to_record_by x a.s.now) c.load-read.ensures.answers
+    c.address_under.ensures ∙ ap (λ (x : TableOutcome). to_record_by x a.s.now) c.read_table.ensures.answers

@@ -13,8 +13,8 @@ pub slice_bounds-read_over-end : goal.slice_bounds-read_over-end
 slice_bounds-read_over-end c =
     sym (length-take-le c.args.parted.at c.args.s.now c.requires.at_in_bounds)
 
-pub returns : goal.returns
-returns c =
+pub returns-else-parted : goal.returns-else-parted
+returns-else-parted c =
     let a = c.args in
     c.read_over.ensures
-    ∙ ap (λ (s : List ℕ). reading_result (read_settled a.n a.rec s)) (sym (local-plain a.s.now a.parted c.if-parted.false))
+    ∙ ap (λ (s : List ℕ). reading_result (read_settled a.settled.now.levels a.settled.now.«record» s)) (sym (local-plain a.s.now a.parted c.if-parted.false))

@@ -24,5 +24,5 @@ pub returns : goal.returns
 returns c =
     let a = c.args in
     c.read_over.ensures
-    ∙ ap (λ (s : List ℕ). reading_result (read_settled a.n a.rec s))
+    ∙ ap (λ (s : List ℕ). reading_result (read_settled a.settled.now.levels a.settled.now.«record» s))
     (wrote_taken c.unquote_local-m.ensures (omega (arith, local-length a.s.now a.parted)))

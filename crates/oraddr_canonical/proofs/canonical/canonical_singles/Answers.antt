@@ -1,41 +1,21 @@
--- `canonical_singles` meets its contract. The loop's invariant: what is left is kept just where all is.
+-- `canonical_singles` meets its contract: each value, with its number, is in range and kept.
 -- Assumes nothing.
-use mathlib.Core.Path.{◌≡◌, refl, sym, ◌∙◌}
-use mathlib.Core.List.{[]}
-use native.Mathlib.Omega.{arith}
+use mathlib.Core.Path.{◌∙◌}
+use mathlib.Core.Bool.{◌&&◌}
 use borrow.Author.Rules.{rules}
-use lib.ListN.{length}
-use Rattle.oraddr.specs.Bounds.{single_count}
-use Rattle.oraddr.specs.Canonical.{canonical_singles}
-use Rattle.oraddr.specs.View.{singles_in_range, singles_view}
-use Rattle.oraddr_canonical.proofs.Laws.{kept-end, kept_step}
+use borrow.Author.Tests.{tests}
+use Rattle.std.proofs.lemmas.Iterator.{YieldsList-from_slice}
+use Rattle.std.proofs.lemmas.Iterator.Consumers.{YieldsList-from_enumerate}
+use Rattle.std.proofs.lemmas.Iterator.Search.{all_from_yields_List}
+use Rattle.oraddr.specs.Canonical.{canonical_singles, kept}
+use Rattle.oraddr.specs.View.{singles_in_range, singles_view, text_in_range, value_view}
+use Rattle.oraddr_canonical.proofs.Laws.{kept_pairs}
 use Rattle.oraddr_canonical.proofs.canonical.canonical_singles.Goals as goal
 
-pub loop-k-init : goal.loop-k-init
-unfolding canonical_singles singles_in_range singles_view
-loop-k-init c = (omega arith, refl)
-
-pub returns-then-not-is_kept : goal.returns-then-not-is_kept
-returns-then-not-is_kept c =
-    let values = c.args.all.values in
-    let room : length values ≡ single_count = search rules in
-    sym
-    (c.loop-k.invariant.1
-    ∙ kept_step values c.loop-k.k (record { len = 0; bytes = [] }) (omega arith)
-    ∙ rw (sym c.is_kept.ensures ∙ c.if-not-is_kept.true))
-
-pub loop-k-preserved : goal.loop-k-preserved
-loop-k-preserved c =
-    let values = c.args.all.values in
-    let room : length values ≡ single_count = search rules in (
-      omega arith,
-      c.loop-k.invariant.1
-          ∙ kept_step values c.loop-k.k (record { len = 0; bytes = [] }) (omega arith)
-          ∙ rw (sym c.is_kept.ensures ∙ c.if-not-is_kept.false),
-    )
-
 pub returns : goal.returns
+unfolding canonical_singles singles_in_range singles_view
 returns c =
-    let values = c.args.all.values in
-    let room : length values ≡ single_count = search rules in
-    sym (c.loop-k.invariant.1 ∙ kept-end values c.loop-k.k (omega arith))
+    all_from_yields_List (λ p. text_in_range p.1 && kept p.0 (value_view p.1)) c.all.new.self _ c.all.result c.all.ensures.ran
+    (YieldsList-from_enumerate (YieldsList-from_slice c.args.all.now.values (cc)) (cc))
+    (λ x b q h. search (rules, tests))
+    ∙ kept_pairs 0 c.args.all.now.values

@@ -1,51 +1,22 @@
--- `canonical_units` meets its contract. The loop's invariant: what is left passes just where all do.
+-- `canonical_units` meets its contract: each of as many as the count says is in range and keeps its rule.
 -- Assumes nothing.
-use mathlib.Core.Path.{◌≡◌, sym, ◌∙◌}
-use mathlib.Core.List.{[]}
-use native.Mathlib.Omega.{arith}
+use mathlib.Core.Path.{◌∙◌}
+use mathlib.Core.Bool.{◌&&◌}
 use borrow.Author.Rules.{rules}
-use lib.ListN.{length}
-use lib.Dec.{leb}
-use Rattle.oraddr.specs.Bounds.{OU, bound_of, most}
+use borrow.Author.Tests.{tests}
+use lib.ListN.{take}
+use Rattle.std.proofs.lemmas.Iterator.{YieldsList-from_slice}
+use Rattle.std.proofs.lemmas.Iterator.Search.{all_from_yields_List}
 use Rattle.oraddr.specs.Canonical.{canonical_units, is_unit}
-use Rattle.oraddr.specs.View.{unit_view, units_in_range, units_view}
-use Rattle.oraddr_canonical.proofs.Laws.{counted_fused, counted_over, part_end, part_step}
+use Rattle.oraddr.specs.View.{text_in_range, unit_view, units_in_range, units_view}
+use Rattle.oraddr_canonical.proofs.Laws.{counted}
 use Rattle.oraddr_canonical.proofs.canonical.canonical_units.Goals as goal
-use Rattle.oraddr_canonical.proofs.canonical.canonical_units.Invariants.{passes}
 
-pub returns-then-count-gt-MOST : goal.returns-then-count-gt-MOST
+pub returns-then-count-le-MOST : goal.returns-then-count-le-MOST
 unfolding canonical_units units_in_range units_view
-returns-then-count-gt-MOST c =
-    let units = c.args.units in
-    sym (counted_over (λ v. leb v.len (bound_of OU)) is_unit unit_view units.count units.names (omega arith))
-
-pub loop-i-init : goal.loop-i-init
-unfolding canonical_units units_in_range units_view
-loop-i-init c =
-    let units = c.args.units in
-    (omega arith, omega arith, counted_fused (λ v. leb v.len (bound_of OU)) is_unit unit_view units.count units.names (omega arith))
-
-pub returns-then-not-is_unit : goal.returns-then-not-is_unit
-returns-then-not-is_unit c =
-    let units = c.args.units in
-    let room : length units.names ≡ most = search rules in
-    sym
-    (c.loop-i.invariant.2
-    ∙ part_step passes units.count units.names c.loop-i.i (record { len = 0; bytes = [] }) (omega arith) (omega arith)
-    ∙ rw (sym c.is_unit.ensures ∙ c.if-not-is_unit.true))
-
-pub loop-i-preserved : goal.loop-i-preserved
-loop-i-preserved c =
-    let units = c.args.units in
-    let room : length units.names ≡ most = search rules in (
-      omega arith,
-      omega arith,
-      c.loop-i.invariant.2
-          ∙ part_step passes units.count units.names c.loop-i.i (record { len = 0; bytes = [] }) (omega arith) (omega arith)
-          ∙ rw (sym c.is_unit.ensures ∙ c.if-not-is_unit.false),
-    )
-
-pub returns : goal.returns
-returns c =
-    let units = c.args.units in
-    sym (c.loop-i.invariant.2 ∙ part_end passes units.count units.names c.loop-i.i (omega arith))
+returns-then-count-le-MOST c =
+    let a = c.args.units.now in
+    all_from_yields_List (λ x. text_in_range x && is_unit (unit_view x)) c.all.new.self _ c.all.result c.all.ensures.ran
+    (YieldsList-from_slice (take a.count a.names) (cc))
+    (λ x b q h. search (rules, tests))
+    ∙ counted text_in_range is_unit unit_view a.count a.names c.if-count-le-MOST.true

@@ -1,8 +1,6 @@
 -- `orroute::files::read_whole` meets its contract.
 -- Assumes nothing.
-use mathlib.Core.Path.{◌≡◌}
-use Prim.Native.Nat.{◌-◌, ◌≤◌}
-use lib.ListN.{length}
+use Rattle.std.proofs.Common.{◌≡◌, ◌-◌, ◌≤◌, length}
 use Rattle.orroute.proofs.files.read_whole.Given as goal
 
 abbrev pub invariant-loop-n : goal.invariant-loop-n

@@ -1,11 +1,10 @@
 -- `orroute::files::write_out` meets its contract.
 -- Assumes nothing.
-use Prim.Native.Nat.{◌-◌, ◌≤◌}
-use lib.ListN.{length}
+use Rattle.std.proofs.Common.{◌-◌, ◌≤◌, length}
 use Rattle.orroute.proofs.files.write_out.Given as goal
 
 abbrev pub invariant-loop-done : goal.invariant-loop-done
-invariant-loop-done l = l.done ≤ length l.s
+invariant-loop-done g l = l.done ≤ length l.s
 
 abbrev pub decreases-loop-done : goal.decreases-loop-done
-decreases-loop-done l = length l.s - l.done
+decreases-loop-done g l = length l.s - l.done

@@ -2,7 +2,6 @@
 -- Assumes nothing.
 use mathlib.Core.Path.{◌≡◌}
 use mathlib.Core.List.{map}
-use Prim.Native.Nat.{◌-◌, ◌≤◌}
 use lib.ListN.{take, drop}
 use Rattle.oraddr.specs.Add.{told}
 use Rattle.ortext_build.specs.Adding.{add_dds, dd_at, held_dds}
@@ -10,7 +9,4 @@ use Rattle.ortext_build.proofs.build.add_dds.Given as goal
 
 abbrev pub invariant-loop-i : goal.invariant-loop-i
 invariant-loop-i l =
-    (l.i ≤ l.named.dd_count) × (add_dds (held_dds l.s l.named) (told l.initial.done) ≡ add_dds (map (dd_at l.s) (drop l.i (take l.named.dd_count l.named.dds))) (told l.done))
-
-abbrev pub decreases-loop-i : goal.decreases-loop-i
-decreases-loop-i l = l.named.dd_count - l.i
+    add_dds (held_dds l.s l.named) (told l.initial.done) ≡ add_dds (map (dd_at l.s) (drop l.i (take l.named.dd_count l.named.dds))) (told l.done)

@@ -15,7 +15,7 @@ use Rattle.ortext_build.proofs.build.add_initials.Goals as goal
 
 pub returns-then-n-gt-ROOM : goal.returns-then-n-gt-ROOM
 returns-then-n-gt-ROOM c =
-    let t = c in let a = t.args in let v = letters_at a.n (drop a.from a.text.now) in single_long a.rec I v (omega arith) (omega (arith, length_letters a.n (drop a.from a.text.now) (rw length-drop (omega arith))))
+    let t = c in let a = t.args in let v = letters_at a.n (drop a.from a.text.now) in c.refused.ensures ∙ single_long a.rec I v (omega arith) (omega (arith, length_letters a.n (drop a.from a.text.now) (rw length-drop (omega arith))))
 
 -- the initials at the front of the buffer are as many as asked for
 part : (n : ℕ) (s rest letters : List ℕ) → 2 * n ≤ length s → letters ≡ letters_at n s ++ rest → (take n letters ≡ letters_at n s) × (length (letters_at n s) ≡ n)

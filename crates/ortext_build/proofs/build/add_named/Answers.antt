@@ -7,30 +7,27 @@ use Rattle.ortext_build.specs.Adding.{add_dds, add_units, done, held_dds, held_u
 use Rattle.ortext_build.proofs.Laws.Adding.{held_pn, held_pn_stop, held_stop, told-done, told_none, told-refused, told-some}
 use Rattle.ortext_build.proofs.build.add_named.Goals as goal
 
-pub returns-in-Refused : goal.returns-in-Refused
-returns-in-Refused c =
+pub returns-in_default : goal.returns-in_default
+returns-in_default c =
     let t = c in
     let s = t.args.s.now in
     let m = t.args.named in
     let r = t.args.rec in
     let a = c.add_singles-singles in
-    ap done (held_stop s m r (told a.result) a.ensures (told-refused a.result c.in-Refused.is))
+    ap done (held_stop s m r (told a.result) a.ensures (told-refused a.result c.in_default.is))
 
 pub add_pn-name-requires : goal.add_pn-name-requires
-add_pn-name-requires c = record {
-  sound = c.requires.once pn_key;
-  before_value = told-done c.add_singles-singles.result c.in_default.is;
-}
+add_pn-name-requires c = c.requires.once pn_key
 
-pub returns-in-Refused-answer : goal.returns-in-Refused-answer
-returns-in-Refused-answer c =
+pub returns-in_default-answer : goal.returns-in_default-answer
+returns-in_default-answer c =
     let t = c in
     let s = t.args.s.now in
     let m = t.args.named in
     let r = t.args.rec in
     let a = c.add_singles-singles in
     let b = c.add_pn-name in
-    b.ensures ∙ ap done (held_pn_stop s m r (told a.result) a.ensures a.result.«record» (told-done a.result c.in_default.is) (sym b.ensures ∙ told_none b.result c.in-Refused-answer.is))
+    b.ensures ∙ ap done (held_pn_stop s m r (told a.result) a.ensures a.result.«record» (told-done a.result c.in-Done.is) (sym b.ensures ∙ told_none b.result c.in_default-answer.is))
 
 pub returns : goal.returns
 returns c =
@@ -40,6 +37,6 @@ returns c =
     let r = t.args.rec in
     let a = c.add_singles-singles in
     let b = c.add_pn-name in
-    let done-b = c.in_default-answer.is in
+    let done-b = c.in-Done-answer.is in
     ap done (c.add_dds.ensures ∙ ap (add_dds (held_dds s m)) (c.add_units.ensures ∙ ap (add_units (held_units s m)) (told-done b.result done-b))
-    ∙ sym (held_pn s m r (told a.result) a.ensures a.result.«record» (told-done a.result c.in_default.is) b.result.«record» (sym b.ensures ∙ told-some b.result done-b)))
+    ∙ sym (held_pn s m r (told a.result) a.ensures a.result.«record» (told-done a.result c.in-Done.is) b.result.«record» (sym b.ensures ∙ told-some b.result done-b)))

@@ -1,6 +1,6 @@
 -- `ortext_build::build::add_singles` meets its contract. The loop's invariant: what is left, added to the record so far, is all of it added.
 -- Assumes nothing.
-use mathlib.Core.Path.{◌≡◌, refl, sym, ap, ◌∙◌}
+use mathlib.Core.Path.{◌≡◌, sym, ap, ◌∙◌}
 use mathlib.Core.List.{List, [], ◌∷◌, map}
 use Prim.Native.Nat.{ℕ, ◌+◌, ◌<◌, ◌≤◌}
 use native.Mathlib.Omega.{arith}
@@ -26,40 +26,33 @@ step f once k r h l =
     singles_next f no_span k all (start r) (omega (arith, length-take single_count once))
     ∙ ap (λ p. add_singles (k + 1) (map f (drop (k + 1) all)) (add_singles k (f p ∷ []) (start r))) (get_or-take single_count once k no_span h)
 
-pub loop-k-init : goal.loop-k-init
-loop-k-init c = (omega arith, refl)
-
 pub loop-k-preserved-then-span-eq0 : goal.loop-k-preserved-then-span-eq0
 loop-k-preserved-then-span-eq0 c =
     let s = c.args.s.now in
     let once = c.args.named.once in
     let l = c.loop-k in
-    let p = get_or once l.k no_span in (
-      omega arith,
-      l.invariant.1 ∙ step (span_text s) once l.k l.next (omega arith) (omega (arith, c.requires.once-room))
-          ∙ ap (add_singles _ _) (sym (single-none l.next l.k (span_text s p) (span_none s p c.if-span-eq0.true))),
-    )
+    let p = get_or once l.k no_span in
+    l.invariant ∙ step (span_text s) once l.k l.next (omega arith) (omega (arith, c.requires.once-room))
+    ∙ ap (add_singles _ _) (sym (single-none l.next l.k (span_text s p) (span_none s p c.if-span-eq0.true)))
 
 pub add_single-done-requires : goal.add_single-done-requires
-add_single-done-requires c = record { k_lt_single_count = omega arith; sound = c.requires.once c.loop-k.k }
+add_single-done-requires c = record { key = omega arith; sound = c.requires.once c.loop-k.k }
 
-pub returns-in-Refused : goal.returns-in-Refused
-returns-in-Refused c =
+pub returns-in_default : goal.returns-in_default
+returns-in_default c =
     let l = c.loop-k in
     let r = c.add_single-done.result in
     sym
-    (l.invariant.1 ∙ step (span_text c.args.s.now) c.args.named.once l.k l.next (omega arith) (omega (arith, c.requires.once-room))
+    (l.invariant ∙ step (span_text c.args.s.now) c.args.named.once l.k l.next (omega arith) (omega (arith, c.requires.once-room))
     ∙ ap (add_singles _ _) (sym c.add_single-done.ensures)
-    ∙ singles_stop _ _ (told r) (told-refused r c.in-Refused.is))
+    ∙ singles_stop _ _ (told r) (told-refused r c.in_default.is))
 
 pub loop-k-preserved : goal.loop-k-preserved
 loop-k-preserved c =
     let l = c.loop-k in
-    let r = c.add_single-done.result in (
-      omega arith,
-      l.invariant.1 ∙ step (span_text c.args.s.now) c.args.named.once l.k l.next (omega arith) (omega (arith, c.requires.once-room))
-          ∙ ap (add_singles _ _) (sym c.add_single-done.ensures ∙ told-done r c.in_default.is),
-    )
+    let r = c.add_single-done.result in
+    l.invariant ∙ step (span_text c.args.s.now) c.args.named.once l.k l.next (omega arith) (omega (arith, c.requires.once-room))
+    ∙ ap (add_singles _ _) (sym c.add_single-done.ensures ∙ told-done r c.in-Done.is)
 
 pub returns : goal.returns
 unfolding add_singles
@@ -67,4 +60,4 @@ returns c =
     let l = c.loop-k in
     let once = c.args.named.once in
     let h : length (take single_count once) ≤ l.k = omega (arith, length-take single_count once) in
-    sym (l.invariant.1 ∙ rw (drop_of_length-le (take single_count once) h))
+    c.unchanged.ensures ∙ sym (l.invariant ∙ rw (drop_of_length-le (take single_count once) h))

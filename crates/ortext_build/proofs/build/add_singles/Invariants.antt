@@ -2,7 +2,6 @@
 -- Assumes nothing.
 use mathlib.Core.Path.{◌≡◌}
 use mathlib.Core.List.{map}
-use Prim.Native.Nat.{◌-◌, ◌≤◌}
 use lib.ListN.{take, drop}
 use Rattle.oraddr.specs.Bounds.{single_count}
 use Rattle.ortext_build.specs.Adding.{add_singles, start}
@@ -11,7 +10,4 @@ use Rattle.ortext_build.proofs.build.add_singles.Given as goal
 
 abbrev pub invariant-loop-k : goal.invariant-loop-k
 invariant-loop-k l =
-    (l.k ≤ single_count) × (add_singles 0 (map (span_text l.s) (take single_count l.named.once)) (start l.initial.next) ≡ add_singles l.k (map (span_text l.s) (drop l.k (take single_count l.named.once))) (start l.next))
-
-abbrev pub decreases-loop-k : goal.decreases-loop-k
-decreases-loop-k l = single_count - l.k
+    add_singles 0 (map (span_text l.s) (take single_count l.named.once)) (start l.initial.next) ≡ add_singles l.k (map (span_text l.s) (drop l.k (take single_count l.named.once))) (start l.next)

@@ -8,11 +8,14 @@ use Rattle.ortext_build.proofs.Laws.Adding.{unit_long}
 use Rattle.ortext_build.proofs.Laws.Spans.{fronted_length}
 use Rattle.ortext_build.proofs.build.add_unit.Goals as goal
 
-pub returns-then-span-gt-ROOM : goal.returns-then-span-gt-ROOM
-returns-then-span-gt-ROOM c = let t = c in let a = t.args in unit_long a.rec (span_text a.s.now a.span) (omega (arith, t.requires.half))
+pub returns-in-None : goal.returns-in-None
+returns-in-None c = let t = c in let a = t.args in c.refused.ensures ∙ unit_long a.rec (span_text a.s.now a.span) (omega (arith, t.requires.half, c.in-None.ensures))
+
+pub slice_bounds-text-end : goal.slice_bounds-text-end
+slice_bounds-text-end c = c.in-Some.ensures.fits
 
 pub slice_bounds-with_unit-end : goal.slice_bounds-with_unit-end
-slice_bounds-with_unit-end c = fronted_length c.unquote-n.ensures
+slice_bounds-with_unit-end c = fronted_length c.in-Some.ensures
 
-pub returns : goal.returns
-returns c = let a = c.args in c.with_unit.ensures ∙ ap (add_unit a.rec) c.unquote-n.ensures.holds
+pub returns-in-Some : goal.returns-in-Some
+returns-in-Some c = let a = c.args in c.with_unit.ensures ∙ ap (add_unit a.rec) c.in-Some.ensures.holds

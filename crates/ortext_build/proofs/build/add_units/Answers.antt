@@ -15,10 +15,10 @@ use Rattle.ortext_build.proofs.build.add_units.Goals as goal
 pub loop-i-init : goal.loop-i-init
 loop-i-init c = (omega arith, refl)
 
-pub returns-in-Refused : goal.returns-in-Refused
-returns-in-Refused c =
+pub returns-in_default : goal.returns-in_default
+returns-in_default c =
     let l = c.loop-i in
-    sym (l.invariant.1 ∙ units_stop _ (told l.done) (told-refused l.done c.in-Refused.is))
+    sym (l.invariant.1 ∙ units_stop _ (told l.done) (told-refused l.done c.in_default.is))
 
 pub add_unit-done-requires : goal.add_unit-done-requires
 add_unit-done-requires c = c.requires.units (c.loop-i.i - 1)
@@ -34,7 +34,7 @@ loop-i-preserved c =
       omega arith,
       l.invariant.1 ∙ ap (λ i. add_units (reverse (map f (take i units))) (told l.done)) e
           ∙ units_next f no_span (l.i - 1) units (told l.done) (omega (arith, t.requires.units-room, t.requires.few-units))
-          ∙ ap (λ o. add_units (reverse (map f (take (l.i - 1) units))) (and_then o (λ r. add_unit r (f (get_or units (l.i - 1) no_span))))) (told-done l.done c.in_default.is)
+          ∙ ap (λ o. add_units (reverse (map f (take (l.i - 1) units))) (and_then o (λ r. add_unit r (f (get_or units (l.i - 1) no_span))))) (told-done l.done c.in-Done.is)
           ∙ ap (add_units (reverse (map f (take (l.i - 1) units)))) (sym c.add_unit-done.ensures),
     )
 

@@ -12,6 +12,3 @@ use Rattle.ortext_build.proofs.build.add_units.Given as goal
 abbrev pub invariant-loop-i : goal.invariant-loop-i
 invariant-loop-i l =
     (l.i ≤ l.named.unit_count) × (add_units (held_units l.s l.named) (told l.initial.done) ≡ add_units (reverse (map (span_text l.s) (take l.i l.named.units))) (told l.done))
-
-abbrev pub decreases-loop-i : goal.decreases-loop-i
-decreases-loop-i l = l.i

@@ -1,16 +1,16 @@
 -- `ortext_build::build::add_value` meets its contract.
 -- Assumes nothing.
 use mathlib.Core.Path.{◌∙◌}
-use native.Mathlib.Omega.{arith}
 use Rattle.chars.specs.Lists.{non_empty}
-use Rattle.chars.proofs.Laws.Seq.{no_length, some-length}
+use Rattle.chars.proofs.Laws.Seq.{some-length}
+use Rattle.ortext_name.proofs.Laws.Name.{is_bare, is_full}
 use Rattle.ortext_build.specs.Adding.{add_singles, and_then}
 use Rattle.ortext_build.proofs.build.add_value.Goals as goal
 
-pub returns-then-value-eq0 : goal.returns-then-value-eq0
+pub returns-then-is_empty : goal.returns-then-is_empty
 unfolding add_singles non_empty
-returns-then-value-eq0 c = rw (no_length c.args.value.now (omega arith))
+returns-then-is_empty c = rw (is_bare _ c.is_empty.ensures c.if-is_empty.true) c.unchanged.ensures
 
 pub returns : goal.returns
 unfolding add_singles and_then
-returns c = c.with_single.ensures ∙ rw (some-length c.args.value.now (omega arith))
+returns c = c.with_single.ensures ∙ rw (some-length c.args.value.now (is_full _ c.is_empty.ensures c.if-is_empty.false))

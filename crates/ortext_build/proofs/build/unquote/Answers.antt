@@ -1,64 +1,41 @@
-use mathlib.Core.Path.{◌≡◌, refl, sym, ap, ◌∙◌}
-use mathlib.Core.List.{[], ◌++◌, append-nil}
-use Prim.Native.Nat.{◌+◌}
-use native.Mathlib.Numerals.{add-one}
+-- `ortext_build::build::unquote` meets its contract. The loop's invariant: what is stored, and what is left, is the whole text.
+-- Assumes nothing.
+use mathlib.Core.Path.{refl, ◌∙◌}
 use native.Mathlib.Omega.{arith}
-use lib.ListN.{take, get_or, length-set}
-use lib.Seq.{append_snoc, slice, slice_empty, take-suc-set}
-use Rattle.ortext_segments.specs.Segments.{unquoted}
-use Rattle.ortext_build.proofs.Laws.Spans.{quote_on, span_slice, unquoted-last, unquoted_step}
+use lib.ListN.{length-set}
+use Rattle.chars.proofs.Laws.Lists.{true_not_false}
+use Rattle.ortext_build.proofs.Laws.Spans.{all_stored, byte_stored, quote_passed, unquoted_after}
 use Rattle.ortext_build.proofs.build.unquote.Goals as goal
+use Rattle.ortext_build.proofs.build.unquote.Goals.{else-b-eq36-via-then-b-eq36+else-not-is_quoted, else-b-eq36-via-else-b-eq36}
 
-pub loop-i-init : goal.loop-i-init
-loop-i-init c = (omega arith, omega arith, refl, refl)
+pub loop-b-init : goal.loop-b-init
+unfolding unquoted_after
+loop-b-init c = record { behind = omega arith; room = refl; text = refl }
 
-pub shape_of-dst-then-end-at : goal.shape_of-dst-then-end-at
-shape_of-dst-then-end-at c = c.loop-i.invariant.2
-
-pub returns-then-end-at : goal.returns-then-end-at
-returns-then-end-at c =
-    let l = c.loop-i in
-    let a = c.args in
-    let k = c.skip_quote-at in
-    let end = a.span.start + a.span.len in
-    let e = unquoted-last a.s.now l.i end k.result (omega arith) (omega arith) k.ensures (omega arith) in
-    record {
-      fits = omega arith;
-      holds = sym (append-nil (take l.n l.dst)) ∙ ap (λ t. take l.n l.dst ++ t) (sym e) ∙ l.invariant.3 ∙ sym (span_slice a.s.now a.span);
+pub loop-b-preserved-then-not-is_quoted : goal.loop-b-preserved-then-not-is_quoted
+loop-b-preserved-then-not-is_quoted c =
+    let l = c.loop-b in record {
+      behind = omega arith;
+      room = l.invariant.room;
+      text = quote_passed _ l.room l.b-index l.n l.is_quoted (omega arith) l.invariant.text c.if-b-eq36.true c.if-not-is_quoted.true;
     }
 
-pub loop-i-smaller : goal.loop-i-smaller
-loop-i-smaller c =
-    let k = c.skip_quote-at in
-    let a = c.args in
-    omega (arith, quote_on a.s.now c.loop-i.i (a.span.start + a.span.len) k.result (omega arith) (omega arith) k.ensures)
-
-pub loop-i-preserved : goal.loop-i-preserved
-loop-i-preserved c =
-    let l = c.loop-i in
-    let a = c.args in
-    let k = c.skip_quote-at in
-    let end = a.span.start + a.span.len in
-    let e = unquoted_step a.s.now l.i end k.result (omega arith) (omega arith) k.ensures (omega arith) in
-    let x = get_or a.s.now k.result 0 in (
-      omega arith,
-      omega (arith, quote_on a.s.now l.i end k.result (omega arith) (omega arith) k.ensures),
-      length-set l.dst l.n x ∙ l.invariant.2,
-      rw (add-one l.n, take-suc-set l.dst l.n x (omega arith)) (append_snoc (take l.n l.dst) x (unquoted (slice (k.result + 1) end a.s.now)) ∙ ap (λ t. take l.n l.dst ++ t) (sym e) ∙ l.invariant.3),
-    )
-
-pub shape_of-dst : goal.shape_of-dst
-shape_of-dst c = c.loop-i.invariant.2
+pub loop-b-preserved : goal.loop-b-preserved
+loop-b-preserved c =
+    let l = c.loop-b in record {
+      behind = omega arith;
+      room = length-set l.room l.n _ ∙ l.invariant.room;
+      text =
+          byte_stored _ l.room l.b-index l.n l.is_quoted (omega arith) l.invariant.text (omega arith)
+          (elim c.else-b-eq36.branch [
+            | else-b-eq36-via-then-b-eq36+else-not-is_quoted w ↦ λ f g. true_not_false l.is_quoted w.if-not-is_quoted.false f
+            | else-b-eq36-via-else-b-eq36 w ↦ λ f g. w.if-b-eq36.false g
+          ]);
+    }
 
 pub returns : goal.returns
-unfolding unquoted
 returns c =
-    let l = c.loop-i in
-    let a = c.args in
-    let end = a.span.start + a.span.len in
-    let i : l.i ≡ end = omega arith in
-    let e : unquoted (slice l.i end a.s.now) ≡ [] = rw (i, slice_empty) in
-    record {
+    let l = c.loop-b in record {
       fits = omega arith;
-      holds = sym (append-nil (take l.n l.dst)) ∙ ap (λ t. take l.n l.dst ++ t) (sym e) ∙ l.invariant.3 ∙ sym (span_slice a.s.now a.span);
+      holds = all_stored c.args.s.now l.room c.args.span l.b-index l.n l.is_quoted (omega arith) l.invariant.text;
     }

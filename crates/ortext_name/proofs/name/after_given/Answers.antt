@@ -10,24 +10,21 @@ use Rattle.chars.specs.Parts.{run}
 use Rattle.ortext_name.specs.Name.{has_given}
 use Rattle.ortext_name.specs.Places.{given_end}
 use Rattle.ortext_name.proofs.name.after_given.Goals as goal
-
-pub returns-then-dot-lt2 : goal.returns-then-dot-lt2
-unfolding given_end has_given
-returns-then-dot-lt2 c =
-    let the_at_dot : c.part_end-dot.result ≡ run 46 c.args.s.now = c.part_end-dot.ensures ∙ zero-add (run 46 c.args.s.now) in
-    rw (lt-leb 2 (run 46 c.args.s.now) (omega (arith, the_at_dot)))
+use Rattle.ortext_name.proofs.name.after_given.Goals.{else-dot-ge2-via-then-dot-ge2+else-dot-s, else-dot-ge2-via-else-dot-ge2}
 
 pub returns-then-dot-s : goal.returns-then-dot-s
 unfolding given_end has_given
 returns-then-dot-s c =
-    let the_at_dot : c.part_end-dot.result ≡ run 46 c.args.s.now = c.part_end-dot.ensures ∙ zero-add (run 46 c.args.s.now) in
     let s = c.args.s.now in
-    let r = the_at_dot in
-    rw (r, le-leb 2 (run 46 s) (omega arith), lt-ltb (run 46 s) (length s) (omega arith))
+    let at_dot : c.part_end-dot.result ≡ run 46 s = c.part_end-dot.ensures ∙ zero-add (run 46 s) in
+    rw (at_dot, le-leb 2 (run 46 s) (omega arith), lt-ltb (run 46 s) (length s) (omega arith))
 
-pub returns : goal.returns
+pub returns-else-dot-ge2 : goal.returns-else-dot-ge2
 unfolding given_end has_given
-returns c =
-    let the_at_dot : c.part_end-dot.result ≡ run 46 c.args.s.now = c.part_end-dot.ensures ∙ zero-add (run 46 c.args.s.now) in
+returns-else-dot-ge2 c =
     let s = c.args.s.now in
-    rw (le-ltb (run 46 s) (length s) (omega (arith, the_at_dot)), and-false)
+    let at_dot : c.part_end-dot.result ≡ run 46 s = c.part_end-dot.ensures ∙ zero-add (run 46 s) in
+    elim c.else-dot-ge2.branch [
+      | else-dot-ge2-via-then-dot-ge2+else-dot-s w ↦ rw (le-ltb (run 46 s) (length s) (omega arith), and-false)
+      | else-dot-ge2-via-else-dot-ge2 w ↦ rw (lt-leb 2 (run 46 s) (omega arith))
+    ]

@@ -7,23 +7,23 @@ use lib.ListN.{length, length-append}
 use Rattle.chars.specs.Lists.{non_empty}
 use Rattle.chars.proofs.Laws.Write.{wrote-length, wrote_nothing, wrote_then}
 use Rattle.ortext_name.specs.Name.{given_text}
-use Rattle.chars.proofs.Laws.Seq.{no_length}
-use Rattle.ortext_name.proofs.Laws.Name.{given-some}
+use Rattle.ortext_name.proofs.Laws.Name.{given-some, is_bare, is_full}
 use Rattle.ortext_name.proofs.name.put_given.Goals as goal
 
-pub returns-then-given-eq0 : goal.returns-then-given-eq0
+pub returns-then-is_empty : goal.returns-then-is_empty
 unfolding given_text non_empty
-returns-then-given-eq0 c = rw (no_length c.args.given.now (omega arith)) wrote_nothing
+returns-then-is_empty c = rw (is_bare _ c.is_empty.ensures c.if-is_empty.true) wrote_nothing
 
 pub put-dot-requires : goal.put-dot-requires
 put-dot-requires c =
     let g = c.args.given.now in
-    omega (arith, ap length (given-some g (omega arith)), length-append g (46 ∷ []), c.requires)
+    omega (arith, ap length (given-some g (is_full _ c.is_empty.ensures c.if-is_empty.false)), length-append g (46 ∷ []), c.requires)
 
 pub bounds-dst-dot : goal.bounds-dst-dot
 bounds-dst-dot c =
     let g = c.args.given.now in
-    omega (arith, ap length (given-some g (omega arith)), length-append g (46 ∷ []), c.requires, wrote-length c.put-dot.ensures, c.put-dot.ensures.moved)
+    omega (arith, ap length (given-some g (is_full _ c.is_empty.ensures c.if-is_empty.false)), length-append g (46 ∷ []), c.requires, wrote-length c.put-dot.ensures, c.put-dot.ensures.moved)
 
 pub returns : goal.returns
-returns c = rw (given-some c.args.given.now (omega arith)) (wrote_then c.put-dot.ensures (record { moved = refl; holds = refl }))
+returns c =
+    rw (given-some c.args.given.now (is_full _ c.is_empty.ensures c.if-is_empty.false)) (wrote_then c.put-dot.ensures (record { moved = refl; holds = refl }))

@@ -9,20 +9,19 @@ use Rattle.ortext_read.proofs.read.as_name.Goals as goal
 
 pub add_name-requires : goal.add_name-requires
 unfolding NameReading
-add_name-requires c = rw c.in-Name.is at c.read_name.ensures
+add_name-requires c = rw c.in-Some.is at c.read_name.ensures
 
-pub returns-in-Name : goal.returns-in-Name
+pub returns-in-Some : goal.returns-in-Some
 unfolding NameReading
-returns-in-Name c =
+returns-in-Some c =
     let a = c.args in
     let d = c.add_name in
-    let p = rw c.in-Name.is at c.read_name.ensures in
+    let p = rw c.in-Some.is at c.read_name.ensures in
     c.finished.ensures ∙ ap reading_result (ap finish d.ensures ∙ name_alone_lem a.rec _ ∙ ap (read_as_name a.rec) (sym p.reads))
 
-pub returns-in-NoName : goal.returns-in-NoName
+pub returns-in-None : goal.returns-in-None
 unfolding NameReading
-returns-in-NoName c =
+returns-in-None c =
     let a = c.args in
-    let p = rw c.in-NoName.is at c.read_name.ensures in
-    answer-unread c.without_record.result c.without_record.ensures
-    ∙ ap reading_result (unread_name a.rec ∙ ap (read_as_name a.rec) (sym p))
+    let p = rw c.in-None.is at c.read_name.ensures in
+    answer-unread (ap (read_as_name a.rec) p ∙ sym (unread_name a.rec))

@@ -8,12 +8,16 @@ use Rattle.ortext_segments.proofs.scan.key_end.Goals as goal
 pub returns-then-not-is_label_char : goal.returns-then-not-is_label_char
 returns-then-not-is_label_char c =
     let at = c in
-    omega (arith, at.loop-i.invariant, key_here at.args.s.now at.loop-i.i (omega arith) (sym c.is_label_char.ensures ∙ c.if-not-is_label_char.true))
+    omega (arith, at.loop-i.invariant.same, key_here at.args.s.now at.loop-i.i (omega arith) (sym c.is_label_char.ensures ∙ c.if-not-is_label_char.true))
 
 pub loop-i-preserved : goal.loop-i-preserved
 loop-i-preserved c =
     let at = c in
-    omega (arith, at.loop-i.invariant, key_more at.args.s.now at.loop-i.i (omega arith) (sym c.is_label_char.ensures ∙ c.if-not-is_label_char.false))
+    record {
+      behind = omega arith;
+      within = omega arith;
+      same = omega (arith, at.loop-i.invariant.same, key_more at.args.s.now at.loop-i.i (omega arith) (sym c.is_label_char.ensures ∙ c.if-not-is_label_char.false));
+    }
 
 pub returns : goal.returns
-returns c = omega (arith, c.loop-i.invariant, key-end c.args.s.now c.loop-i.i (omega arith))
+returns c = omega (arith, c.max.ensures, c.loop-i.invariant.same, key-end c.args.s.now c.loop-i.i (omega arith))

@@ -8,7 +8,6 @@ use borrow.Author.Tests.{eq-eqb, ne_eqb}
 use lib.ListN.{get_or}
 use Rattle.chars.proofs.Laws.Seq.{byte_inside}
 use Rattle.chars.specs.Class.{is_printable}
-use Rattle.ortext_segments.specs.Scan.{end_at}
 use Rattle.ortext_segments.proofs.Laws.Scan.{end_none, end-plain, end-quoted, end_stop, end-unquoted, printable_some}
 use Rattle.ortext_segments.proofs.scan.text_end.Goals as goal
 
@@ -17,12 +16,10 @@ quoted : {b : ℕ} {r : Bool} (x : ℕ) (t : Bool) → b ≡ x → r ≡ is_prin
 quoted x t is test e = sym (ap is_printable is) ∙ sym test ∙ e
 
 pub returns-then-is_stop : goal.returns-then-is_stop
-unfolding end_at
 returns-then-is_stop c =
     sym (c.loop-i.invariant ∙ end_stop c.args.s.now c.loop-i.i (omega arith) (sym c.is_stop.ensures ∙ c.if-is_stop.true))
 
 pub returns-then-not-is_printable : goal.returns-then-not-is_printable
-unfolding end_at
 returns-then-not-is_printable c =
     sym
     (c.loop-i.invariant
@@ -47,5 +44,4 @@ loop-i-preserved c =
     ∙ end-plain c.args.s.now c.loop-i.i (omega arith) (sym c.is_stop.ensures ∙ c.if-is_stop.false) (ne_eqb _ _ c.if-b-eq36.false)
 
 pub returns : goal.returns
-unfolding end_at
 returns c = sym (c.loop-i.invariant ∙ end_none c.args.s.now c.loop-i.i (omega arith))

@@ -7,8 +7,8 @@ use Rattle.ortext_write.proofs.write.put_dd.Goals as goal
 
 pub put_segment-requires : goal.put_segment-requires
 put_segment-requires c = record {
-  k_lt_key_count = lit< tt;
-  value_in_bounds = rw (dd-short c.args.kind.now c.args.value.now (sym c.is_short_kind.ensures ∙ c.if-is_short_kind.true)) at c.requires;
+  key = lit< tt;
+  room = rw (dd-short c.args.kind.now c.args.value.now (sym c.is_short_kind.ensures ∙ c.if-is_short_kind.true)) at c.requires;
 }
 
 pub returns-then-is_short_kind : goal.returns-then-is_short_kind

@@ -18,20 +18,20 @@ step : (d : List Dd) (i : ℕ) (v : Dd) → i < length d → v ≡ get_or d i no
 step d i v h e = flat_step dd_text d i no_dd h ∙ ap (λ t. dd_text t ++ flat dd_text (drop (i + 1) d)) (sym e)
 
 pub loop-i-init : goal.loop-i-init
-loop-i-init c = (omega arith, left_all (joined-map keys dd_segment (dds_view c.args.dds)))
+loop-i-init c = left_all (joined-map keys dd_segment (dds_view c.args.dds))
 
 pub put_item-next-requires : goal.put_item-next-requires
 put_item-next-requires c =
     let l = c.loop-i in
     let d = dds_view c.args.dds in
     let v = dd_view c.item.result in
-    left_room (dd_text v) (flat dd_text (drop (l.i + 1) d)) l.invariant.1 (step d l.i v (omega arith) c.item.ensures) c.requires
+    left_room (dd_text v) (flat dd_text (drop (l.i + 1) d)) l.invariant (step d l.i v (omega arith) c.item.ensures) c.requires
 
 pub loop-i-preserved : goal.loop-i-preserved
 loop-i-preserved c =
     let l = c.loop-i in
     let d = dds_view c.args.dds in
-    (omega arith, left_more l.invariant.1 (step d l.i (dd_view c.item.result) (omega arith) c.item.ensures) c.put_item-next.ensures)
+    left_more l.invariant (step d l.i (dd_view c.item.result) (omega arith) c.item.ensures) c.put_item-next.ensures
 
 pub returns : goal.returns
-returns c = left_none c.loop-i.invariant.1 (flat-end dd_text (dds_view c.args.dds) c.loop-i.i (omega arith))
+returns c = left_none c.loop-i.invariant (flat-end dd_text (dds_view c.args.dds) c.loop-i.i (omega arith))

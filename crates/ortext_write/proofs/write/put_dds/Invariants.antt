@@ -1,7 +1,6 @@
 -- `ortext_write::write::put_dds` meets its contract. The loop's invariant: what is left to write.
 -- Assumes nothing.
 use mathlib.Core.List.{map}
-use Prim.Native.Nat.{◌-◌, ◌≤◌}
 use lib.ListN.{drop}
 use Rattle.oraddr.specs.View.{dds_view}
 use Rattle.ortext_segments.specs.Keys.{keys}
@@ -12,7 +11,4 @@ use Rattle.ortext_write.proofs.write.put_dds.Given as goal
 
 abbrev pub invariant-loop-i : goal.invariant-loop-i
 invariant-loop-i l =
-    (l.i ≤ l.n) × Left l.initial.dst l.at (joined keys (map dd_segment (dds_view l.dds))) l.dst l.next (flat dd_text (drop l.i (dds_view l.dds)))
-
-abbrev pub decreases-loop-i : goal.decreases-loop-i
-decreases-loop-i l = l.n - l.i
+    Left l.initial.dst l.at (joined keys (map dd_segment (dds_view l.dds))) l.dst l.next (flat dd_text (drop l.i (dds_view l.dds)))

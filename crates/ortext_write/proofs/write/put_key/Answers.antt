@@ -1,9 +1,6 @@
 -- `ortext_write::write::put_key` meets its contract: what stands for each key, by its number.
 -- Assumes nothing.
-use mathlib.Core.Path.{sym, ◌∙◌}
-use Prim.Native.Nat.{min}
 use native.Mathlib.Omega.{arith}
-use borrow.Author.Tests.{ltb-false, ltb-true}
 use Rattle.oraddr.specs.View.{view}
 use Rattle.chars.proofs.Laws.Write.{wrote_nothing}
 use Rattle.ortext_segments.specs.Keys.{keys}
@@ -13,36 +10,31 @@ use Rattle.ortext_write.proofs.write.put_key.Goals as goal
 
 pub put_dds-requires : goal.put_dds-requires
 unfolding view
-put_dds-requires c = rw (dds_left c.args.from (view c.args.rec) c.args.k c.if-k-eq-DD_KEY.true) at c.requires.k_in_bounds
+put_dds-requires c = rw (dds_left c.args.from (view c.args.rec) c.args.k c.in-10.is) at c.requires.room
 
-pub returns-then-k-eq-DD_KEY : goal.returns-then-k-eq-DD_KEY
+pub returns-in-10 : goal.returns-in-10
 unfolding view
-returns-then-k-eq-DD_KEY c = rw (dds_left c.args.from (view c.args.rec) c.args.k c.if-k-eq-DD_KEY.true) c.put_dds.ensures
+returns-in-10 c = rw (dds_left c.args.from (view c.args.rec) c.args.k c.in-10.is) c.put_dds.ensures
 
 pub put_units-requires : goal.put_units-requires
 unfolding view
 put_units-requires c =
-    rw c.units_out.ensures (rw (units_left c.args.from (view c.args.rec) c.args.k c.if-k-eq-OU_KEY.true) at c.requires.k_in_bounds)
+    rw c.saturating_sub.ensures (rw (units_left c.args.from (view c.args.rec) c.args.k c.in-9.is) at c.requires.room)
 
-pub returns-then-k-eq-OU_KEY : goal.returns-then-k-eq-OU_KEY
+pub returns-in-9 : goal.returns-in-9
 unfolding view
-returns-then-k-eq-OU_KEY c =
-    rw (units_left c.args.from (view c.args.rec) c.args.k c.if-k-eq-OU_KEY.true) (rw c.units_out.ensures at c.put_units.ensures)
+returns-in-9 c =
+    rw (units_left c.args.from (view c.args.rec) c.args.k c.in-9.is) (rw c.saturating_sub.ensures at c.put_units.ensures)
 
-pub returns-then-is_out : goal.returns-then-is_out
-returns-then-is_out c =
+pub returns-in_default : goal.returns-in_default
+returns-in_default c =
     let a = c.args in
-    let out = ltb-true a.k (min a.from 4) (sym c.is_out.ensures ∙ c.if-is_out.true) in
-    rw (single-none keys (remaining a.from (view a.rec)) a.k (omega arith) (single_out a.from (view a.rec) a.k out)) wrote_nothing
+    rw (single-none keys (remaining a.from (view a.rec)) a.k (omega arith) (single_out a.from (view a.rec) a.k (omega (arith, c.min.ensures, c.if-k-min.true)))) wrote_nothing
 
-pub put_single-requires : goal.put_single-requires
-put_single-requires c =
-    let inside = ltb-false c.args.k (min c.args.from 4) (sym c.is_out.ensures ∙ c.if-is_out.false) in record {
-      k_lt_single_count = omega arith;
-      k_in_bounds = rw (segments_left c.args.from (view c.args.rec) c.args.k inside (omega arith)) at c.requires.k_in_bounds;
-    }
+pub put_single-requires-clause-room : goal.put_single-requires-clause-room
+put_single-requires-clause-room c =
+    rw (segments_left c.args.from (view c.args.rec) c.args.k (omega (arith, c.min.ensures, c.if-k-min.false)) (omega arith)) at c.requires.room
 
-pub returns : goal.returns
-returns c =
-    let inside = ltb-false c.args.k (min c.args.from 4) (sym c.is_out.ensures ∙ c.if-is_out.false) in
-    rw (segments_left c.args.from (view c.args.rec) c.args.k inside (omega arith)) c.put_single.ensures
+pub returns-in_default-2 : goal.returns-in_default-2
+returns-in_default-2 c =
+    rw (segments_left c.args.from (view c.args.rec) c.args.k (omega (arith, c.min.ensures, c.if-k-min.false)) (omega arith)) c.put_single.ensures

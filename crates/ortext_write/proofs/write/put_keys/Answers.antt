@@ -15,25 +15,25 @@ use Rattle.ortext_write.proofs.Laws.Left.{flat, flat-end, flat_step, left_all, l
 use Rattle.ortext_write.proofs.Laws.Write.{key_text, joined_in}
 use Rattle.ortext_write.proofs.write.put_keys.Goals as goal
 
-pub loop-i-init : goal.loop-i-init
-loop-i-init c = (omega arith, left_all (joined_in keys (remaining c.args.from (view c.args.rec)) order))
+pub loop-k-init : goal.loop-k-init
+loop-k-init c = (refl, left_all (joined_in keys (remaining c.args.from (view c.args.rec)) order))
 
 pub put_key-next-requires : goal.put_key-next-requires
 unfolding all
 put_key-next-requires c =
-    let l = c.loop-i in
+    let l = c.loop-k in
     let f = key_text (remaining c.args.from (view c.args.rec)) in record {
-      k_bound = ltb-true (get_or order l.i 0) pn_key (all-at (λ k. ltb k pn_key) order l.i 0 refl (omega arith));
-      k_in_bounds = left_room (f (get_or order l.i 0)) (flat f (drop (l.i + 1) order)) l.invariant.1 (flat_step f order l.i 0 (omega arith)) c.requires;
+      key = ltb-true (get_or order l.k-index 0) pn_key (all-at (λ k. ltb k pn_key) order l.k-index 0 refl (omega arith));
+      room = left_room (f (get_or order l.k-index 0)) (flat f (drop (l.k-index + 1) order)) l.invariant.1 (flat_step f order l.k-index 0 (omega arith)) c.requires;
     }
 
-pub loop-i-preserved : goal.loop-i-preserved
-loop-i-preserved c =
-    let l = c.loop-i in
+pub loop-k-preserved : goal.loop-k-preserved
+loop-k-preserved c =
+    let l = c.loop-k in
     let a = c.args in
-    (omega arith, left_more l.invariant.1 (flat_step (key_text (remaining a.from (view a.rec))) order l.i 0 (omega arith)) c.put_key-next.ensures)
+    (l.invariant.0, left_more l.invariant.1 (flat_step (key_text (remaining a.from (view a.rec))) order l.k-index 0 (omega arith)) c.put_key-next.ensures)
 
 pub returns : goal.returns
 returns c =
     let a = c.args in
-    left_none c.loop-i.invariant.1 (flat-end (key_text (remaining a.from (view a.rec))) order c.loop-i.i (omega arith))
+    left_none c.loop-k.invariant.1 (flat-end (key_text (remaining a.from (view a.rec))) order c.loop-k.k-index (omega arith))

@@ -7,20 +7,20 @@ use Rattle.ortext_write.proofs.Laws.Left.{flat, flat-end, flat_step, left_all, l
 use Rattle.ortext_write.proofs.Laws.Write.{quoted_char, quoted-flat}
 use Rattle.ortext_write.proofs.write.put_quoted.Goals as goal
 
-pub loop-i-init : goal.loop-i-init
-loop-i-init c = (omega arith, left_all (quoted-flat c.args.text.now))
+pub loop-b-init : goal.loop-b-init
+loop-b-init c = left_all (quoted-flat c.args.text.now)
 
 pub put_char-next-requires : goal.put_char-next-requires
 put_char-next-requires c =
-    let l = c.loop-i in
+    let l = c.loop-b in
     let t = c.args.text.now in
-    left_room (quoted_char (get_or t l.i 0)) (flat quoted_char (drop (l.i + 1) t)) l.invariant.1 (flat_step quoted_char t l.i 0 (omega arith)) c.requires
+    left_room (quoted_char (get_or t l.b-index 0)) (flat quoted_char (drop (l.b-index + 1) t)) l.invariant (flat_step quoted_char t l.b-index 0 (omega arith)) c.requires
 
-pub loop-i-preserved : goal.loop-i-preserved
-loop-i-preserved c =
-    let l = c.loop-i in
+pub loop-b-preserved : goal.loop-b-preserved
+loop-b-preserved c =
+    let l = c.loop-b in
     let t = c.args.text.now in
-    (omega arith, left_more l.invariant.1 (flat_step quoted_char t l.i 0 (omega arith)) c.put_char-next.ensures)
+    left_more l.invariant (flat_step quoted_char t l.b-index 0 (omega arith)) c.put_char-next.ensures
 
 pub returns : goal.returns
-returns c = left_none c.loop-i.invariant.1 (flat-end quoted_char c.args.text.now c.loop-i.i (omega arith))
+returns c = left_none c.loop-b.invariant (flat-end quoted_char c.args.text.now c.loop-b.b-index (omega arith))

@@ -16,6 +16,3 @@ invariant-loop-i l =
     (l.i ≤ length u)
     × Left l.initial.dst l.at (joined keys (map (plain_segment ou_key) (reverse (drop l.from u)))) l.dst l.next
     (flat unit_text (reverse (drop l.from (take l.i u))))
-
-abbrev pub decreases-loop-i : goal.decreases-loop-i
-decreases-loop-i l = l.i

@@ -3,29 +3,23 @@
 use mathlib.Core.Path.{sym, ap, ◌∙◌}
 use native.Mathlib.Omega.{arith}
 use lib.ListN.{length}
-use Rattle.oraddr.specs.View.{value_view, view}
+use Rattle.oraddr.specs.View.{view}
 use Rattle.ortext_name.specs.Name.{name_text}
 use Rattle.ortext_write.specs.Write.{remaining}
 use Rattle.ortext_write.proofs.Laws.Write.{local_long, local-short, name_left}
 use Rattle.ortext_write.proofs.write.write_local.Goals as goal
 
-pub put_short-requires : goal.put_short-requires
-put_short-requires c =
-    let g = value_view c.single.result in
-    let i = value_view c.single-then-is_written_short.result in
-    let s = value_view c.single-then-is_written_short-2.result in
-    let name = name_left c.args.from (view c.args.rec) g i s c.single.ensures c.single-then-is_written_short.ensures c.single-then-is_written_short-2.ensures in
+pub put-requires : goal.put-requires
+put-requires c =
+    let name = c.name_in.ensures ∙ name_left c.args.from (view c.args.rec) in
     let short = local-short (remaining c.args.from (view c.args.rec)) (sym c.is_written_short.ensures ∙ c.if-is_written_short.true) in
     omega (arith, ap (λ n. length (name_text n)) name, ap length short, c.requires)
 
 pub returns-then-is_written_short : goal.returns-then-is_written_short
 returns-then-is_written_short c =
-    let g = value_view c.single.result in
-    let i = value_view c.single-then-is_written_short.result in
-    let s = value_view c.single-then-is_written_short-2.result in
-    let name = name_left c.args.from (view c.args.rec) g i s c.single.ensures c.single-then-is_written_short.ensures c.single-then-is_written_short-2.ensures in
+    let name = c.name_in.ensures ∙ name_left c.args.from (view c.args.rec) in
     let short = local-short (remaining c.args.from (view c.args.rec)) (sym c.is_written_short.ensures ∙ c.if-is_written_short.true) in
-    rw (short, sym name) c.put_short.ensures
+    rw (short, sym name) c.put.ensures
 
 pub write_text-requires : goal.write_text-requires
 write_text-requires c =

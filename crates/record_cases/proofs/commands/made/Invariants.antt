@@ -1,8 +1,7 @@
--- `record_cases::commands::made` is safe and ends: each command leaves less of the text.
+-- `made` ends: what is left is shorter behind each command.
 -- Assumes nothing.
-use Prim.Native.Nat.{◌-◌}
 use lib.ListN.{length}
 use Rattle.record_cases.proofs.commands.made.Given as goal
 
-abbrev pub decreases-loop-at : goal.decreases-loop-at
-decreases-loop-at l = length l.s - l.at
+abbrev pub decreases-loop-left : goal.decreases-loop-left
+decreases-loop-left l = length l.left

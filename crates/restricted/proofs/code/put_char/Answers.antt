@@ -8,15 +8,15 @@ use Rattle.restricted.specs.Answers.{spelled}
 use Rattle.restricted.specs.Code.{code_char, numbered}
 use Rattle.restricted.proofs.code.put_char.Goals as goal
 
-pub put_byte-requires : goal.put_byte-requires
+pub put-requires : goal.put-requires
 unfolding spelled
-put_byte-requires c =
+put-requires c =
     let the_single : c.in-Single.c ∷ [] ≡ code_char c.args.b = rw c.in-Single.is at c.coding_of.ensures in
     omega (arith, ap length the_single)
 
-pub put_short-requires : goal.put_short-requires
+pub put-requires-in-Short : goal.put-requires-in-Short
 unfolding spelled
-put_short-requires c =
+put-requires-in-Short c =
     let the_short : 35 ∷ c.in-Short.letter ∷ 35 ∷ [] ≡ code_char c.args.b = rw c.in-Short.is at c.coding_of.ensures in
     omega (arith, ap length the_short)
 
@@ -30,16 +30,16 @@ pub returns-in-Single : goal.returns-in-Single
 unfolding spelled
 returns-in-Single c =
     let the_single : c.in-Single.c ∷ [] ≡ code_char c.args.b = rw c.in-Single.is at c.coding_of.ensures in
-    rw (← the_single) c.put_byte.ensures
+    rw (← the_single) c.put.ensures
 
 pub returns-in-Short : goal.returns-in-Short
 unfolding spelled
 returns-in-Short c =
     let the_short : 35 ∷ c.in-Short.letter ∷ 35 ∷ [] ≡ code_char c.args.b = rw c.in-Short.is at c.coding_of.ensures in
-    rw (← the_short) c.put_short.ensures
+    rw (← the_short) c.put-in-Short.ensures
 
 pub returns-in-Number : goal.returns-in-Number
-unfolding spelled
+unfolding spelled numbered
 returns-in-Number c =
     let the_number : numbered c.args.b ≡ code_char c.args.b = rw c.in-Number.is at c.coding_of.ensures in
     rw (← the_number) c.put_number.ensures

@@ -1,42 +1,46 @@
--- `restricted::convert::unrestrict` meets its contract: what the text parses to, or itself, is placed where it has no byte over 127.
+-- `restricted::convert::unrestrict` meets its contract.
 -- Assumes nothing.
 use mathlib.Core.Path.{sym, ap, ◌∙◌}
-use mathlib.Core.List.{List}
-use Prim.Native.Nat.{ℕ}
-use Rattle.chars.specs.Write.{placed_text, refused_text}
+use native.Mathlib.Omega.{arith}
+use Rattle.std.specs.Prelude.{Ok, None}
+use Rattle.chars.specs.Write.{placed_text}
 use Rattle.restricted.specs.Answers.{Measured, told}
-use Rattle.restricted.specs.declared.convert.RestrictedWritten.{RestrictedWritten}
-use Rattle.restricted.specs.declared.parse.Parsed.TheVariants.{AsItStands, ByteOver127, Length}
-use Rattle.restricted.proofs.Laws.Convert.{unrestrict-chars, unrestrict-high}
-use Rattle.restricted.proofs.Laws.Parse.{decoded_parsed, decoded-stands}
+use Rattle.restricted.specs.Code.{decoded}
+use Rattle.restricted.proofs.Laws.Convert.{told-done, told-err, told-placed, told-short, unrestrict-chars, unrestrict-refused}
+use Rattle.restricted.proofs.Laws.Parse.{decoded-stands, measured-some}
 use Rattle.restricted.proofs.convert.unrestrict.Goals as goal
 
-pub place_parsed-requires : goal.place_parsed-requires
-unfolding Measured
-place_parsed-requires c =
-    let the_parsed : Measured c.args.text.now (Length c.in-Length.n) = rw c.in-Length.is at c.measure_parsed.ensures in
-    let e = decoded_parsed c.args.text.now the_parsed.1 the_parsed.2 in
-    record { s_value = rw e the_parsed.2; n_value = rw e the_parsed.3 }
+pub returns-in_err-n : goal.returns-in_err-n
+returns-in_err-n c =
+    let old = c.args.out.now in
+    let e = c.in_err-n.field-0.0 in
+    told-err c.from_residual.result e old c.from_residual.ensures.1 ∙ unrestrict-refused c.args.text.now old e c.in_err-n.ensures
 
-pub returns-in-Length : goal.returns-in-Length
-unfolding Measured
-returns-in-Length c =
-    let the_parsed : Measured c.args.text.now (Length c.in-Length.n) = rw c.in-Length.is at c.measure_parsed.ensures in
-    let a = c.args in
-    c.place_parsed.ensures ∙ sym (unrestrict-chars a.text.now a.out.now the_parsed.0)
+pub returns-in_default : goal.returns-in_default
+returns-in_default c =
+    let s = c.args.text.now in
+    let old = c.args.out.now in
+    let new = c.place.new.out in
+    let m : Measured s (Ok None) = rw c.in_default.is at c.in_ok-n.ensures in
+    ap (λ r. told r new) c.ok_or.ensures.value ∙ told-placed s old new c.place.result c.place.ensures.size c.place.ensures.buffer
+    ∙ sym (unrestrict-chars s old m.0 ∙ ap (λ t. placed_text t old) (decoded-stands s m.1))
 
-pub returns-in-AsItStands : goal.returns-in-AsItStands
-unfolding Measured
-returns-in-AsItStands c =
-    let the_stands : Measured c.args.text.now AsItStands = rw c.in-AsItStands.is at c.measure_parsed.ensures in
-    let a = c.args in
-    let s = a.text.now in
-    c.place_as_it_stands.ensures
-    ∙ sym (unrestrict-chars s a.out.now the_stands.0 ∙ ap (λ (t : List ℕ). placed_text t a.out.now) (decoded-stands s the_stands.1))
+pub returns-then-out-n : goal.returns-then-out-n
+returns-then-out-n c =
+    let m = measured-some c.args.text.now c.in-Some.n (rw c.in-Some.is at c.in_ok-n.ensures) in
+    told-short (decoded c.args.text.now) c.args.out.now (omega (arith, m.2)) ∙ sym (unrestrict-chars c.args.text.now c.args.out.now m.0)
 
-pub returns-in-ByteOver127 : goal.returns-in-ByteOver127
-unfolding Measured refused_text
-returns-in-ByteOver127 c =
-    let the_high : Measured c.args.text.now ByteOver127 = rw c.in-ByteOver127.is at c.measure_parsed.ensures in
-    let a = c.args in
-    ap (λ (w : RestrictedWritten). told w a.out.now) c.refused.ensures ∙ sym (unrestrict-high a.text.now a.out.now the_high)
+pub put_parsed-requires-clause-s_value : goal.put_parsed-requires-clause-s_value
+put_parsed-requires-clause-s_value c =
+    let m = measured-some c.args.text.now c.in-Some.n (rw c.in-Some.is at c.in_ok-n.ensures) in
+    m.1
+
+pub put_parsed-requires-clause-s_in_bounds : goal.put_parsed-requires-clause-s_in_bounds
+put_parsed-requires-clause-s_in_bounds c =
+    let m = measured-some c.args.text.now c.in-Some.n (rw c.in-Some.is at c.in_ok-n.ensures) in
+    omega (arith, m.2)
+
+pub returns : goal.returns
+returns c =
+    let m = measured-some c.args.text.now c.in-Some.n (rw c.in-Some.is at c.in_ok-n.ensures) in
+    told-done c.put_parsed.ensures (omega (arith, m.2)) ∙ sym (unrestrict-chars c.args.text.now c.args.out.now m.0)

@@ -16,14 +16,14 @@ slice_bounds-say-end-in-loop-at c =
     let r = c.route-done in
     sym (length-take-le r.result.written r.new.out (omega (arith, r.ensures.went.room, wrote-length r.ensures.went.wrote)))
 
-pub returns-then-taken-eq0 : goal.returns-then-taken-eq0
-returns-then-taken-eq0 c =
+pub returns-then-done-eq0 : goal.returns-then-done-eq0
+returns-then-done-eq0 c =
     let l = c.loop-at in
     let a = c.args in
     let s = a.input.now in
     let r = c.route-done in
     let n = length-take-le (a.end - l.at) (drop l.at s) (omega (arith, length-drop l.at s, c.requires.end_in_bounds)) in
-    let w = call_moves (loaded_rules a.table.now) r.ensures (omega (arith, l.invariant.0, c.requires.answer_room_in_bounds)) c.if-taken-eq0.true in
+    let w = call_moves (loaded_rules a.table.now) r.ensures (omega (arith, l.invariant.0, c.requires.answer_room_in_bounds)) c.if-done-eq0.true in
     record {
       on = l.invariant.1;
       within = l.invariant.2;

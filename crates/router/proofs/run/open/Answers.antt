@@ -1,10 +1,11 @@
--- `router::run::open` meets its contract.
+-- `router::run::open` meets its contract: a table that was read is in order.
 -- Assumes nothing.
-use Rattle.table_load.proofs.Laws.Ready.{loading_ready}
+use Rattle.std.proofs.Common.{subst, sym}
+use Rattle.table_load.specs.Load.{FormedBy}
+use Rattle.table_load.proofs.Laws.Ready.{loaded_rules}
 use Rattle.router.proofs.run.open.Goals as goal
 
 pub returns : goal.returns
 returns c =
-    let l = c.load in
-    let a = c.args in
-    record { answers = l.ensures.answers; ready = loading_ready a.text.now l.new.to_path l.new.to_domain l.result l.ensures }
+    let e = c.read_table.ensures.answers in
+    record { answers = e; formed = subst FormedBy (sym e) (loaded_rules c.args.text.now) }

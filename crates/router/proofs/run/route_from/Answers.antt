@@ -7,7 +7,7 @@ use native.Mathlib.Omega.{arith}
 use lib.ListN.{length, take, drop, length-drop}
 use Rattle.chars.specs.Parts.{run}
 use Rattle.chars.proofs.Laws.Parts.{run_le}
-use Rattle.table_load.specs.Load.{load_answer}
+use Rattle.table_load.specs.Tables.{table_answer}
 use Rattle.chars.proofs.Laws.Write.{wrote_as}
 use Rattle.router_line.specs.Line.{line_answer}
 use Rattle.router.proofs.Laws.Run.{routing-end, routing-full, routing_then, went_line, went-start, went_then}
@@ -24,12 +24,11 @@ line_is s at end e =
     ap (λ (k : ℕ). take k (drop at s)) k
 
 pub loop-at-init : goal.loop-at-init
-loop-at-init c = (refl, went-start c.args.from 0 c.args.out.now c.requires.from_in_bounds (omega arith))
+loop-at-init c = (refl, went-start c.args.from 0 c.args.out.now c.requires (omega arith))
 
 pub route_rest-requires : goal.route_rest-requires
 route_rest-requires c =
     let l = c.loop-at in record {
-      ready = c.requires.ready;
       at_in_bounds = omega arith;
       input_value = omega (arith, c.part_end-end.ensures, length-drop l.at c.args.input.now, c.if-end-input.true);
       written_in_bounds = omega (arith, l.invariant.1.room, l.invariant.0);
@@ -41,28 +40,28 @@ shape_of-out-then-end-input c = c.route_rest.auto.out ∙ c.loop-at.invariant.0
 pub returns-then-end-input : goal.returns-then-end-input
 returns-then-end-input c = routing_then c.loop-at.invariant.1 c.route_rest.ensures
 
-pub slice_bounds-place_answer-count : goal.slice_bounds-place_answer-count
-slice_bounds-place_answer-count c = omega (arith, c.part_end-end.ensures)
+pub slice_bounds-line-count : goal.slice_bounds-line-count
+slice_bounds-line-count c = omega (arith, c.part_end-end.ensures)
 
-pub slice_bounds-place_answer-end : goal.slice_bounds-place_answer-end
-slice_bounds-place_answer-end c =
+pub slice_bounds-line-end : goal.slice_bounds-line-end
+slice_bounds-line-end c =
     let l = c.loop-at in
     let end = c.part_end-end in
     omega (arith, lf_within c.args.input.now l.at end.result (omega arith) end.ensures c.if-end-input.false)
 
 pub place_answer-requires : goal.place_answer-requires
 place_answer-requires c =
-    record { ready = c.requires.ready; at_in_bounds = omega (arith, c.loop-at.invariant.1.room, c.loop-at.invariant.0) }
+    omega (arith, c.loop-at.invariant.1.room, c.loop-at.invariant.0)
 
-pub shape_of-out-in-Full : goal.shape_of-out-in-Full
-shape_of-out-in-Full c = c.place_answer.auto.out ∙ c.loop-at.invariant.0
+pub shape_of-out-in_default : goal.shape_of-out-in_default
+shape_of-out-in_default c = c.place_answer.auto.out ∙ c.loop-at.invariant.0
 
-pub returns-in-Full : goal.returns-in-Full
-returns-in-Full c =
+pub returns-in_default : goal.returns-in_default
+returns-in_default c =
     let a = c.args in
     let l = c.loop-at in
-    let loaded = load_answer a.text.now a.to_path.now a.to_domain.now a.read in
-    let q = rw c.in-Full.is at c.place_answer.ensures in
+    let loaded = table_answer a.read.now in
+    let q = c.in_default.ensures in
     routing-full l.invariant.1 c.place_answer.new.out (omega arith) q.0
     (subst (λ (t : List ℕ). length l.out < l.written + length (line_answer loaded t))
     (line_is a.input.now l.at c.part_end-end.result c.part_end-end.ensures) q.1)
@@ -85,14 +84,14 @@ loop-at-preserved c =
     let s = a.input.now in
     let l = c.loop-at in
     let end = c.part_end-end in
-    let loaded = load_answer a.text.now a.to_path.now a.to_domain.now a.read in
-    let q = rw c.in-Next.is at c.place_answer.ensures in
+    let loaded = table_answer a.read.now in
+    let q = c.in-Some.ensures in
     let new = c.place_answer.new.out in
     let before = line_answer loaded (take (end.result - l.at) (drop l.at s)) in
     let line = line_answer loaded (take (run 10 (drop l.at s)) (drop l.at s)) in (
       c.place_answer.auto.out ∙ l.invariant.0,
       went_then l.invariant.1
-          (went_line l.at end.result l.written c.in-Next.n l.out new (omega arith) end.ensures
+          (went_line l.at end.result l.written c.in-Some.n l.out new (omega arith) end.ensures
           (lf_within s l.at end.result (omega arith) end.ensures c.if-end-input.false)
           (wrote_as before line (ap (line_answer loaded) (line_is s l.at end.result end.ensures)) q.0)
           q.1),

@@ -14,7 +14,7 @@ returns-then-table-ge-MOST_ROWS c =
 
 pub join_row-requires : goal.join_row-requires
 join_row-requires c =
-    let found : EntryFound c.args.text.now c.args.entry 68 longest_row_domain c.in-Row.row = rw c.in-Row.is at c.read_entry.ensures in
+    let found : EntryFound c.args.text.now c.args.entry 68 longest_row_domain c.in-Some.row = c.in-Some.ensures in
     record {
       to_path_len = c.requires.to_path_len;
       to_domain_len = c.requires.to_domain_len;
@@ -23,15 +23,14 @@ join_row-requires c =
       row_inside = found.inside;
     }
 
-pub returns-in-Row : goal.returns-in-Row
-returns-in-Row c =
+pub returns-in-Some : goal.returns-in-Some
+returns-in-Some c =
     entry_domain c.args.text.now c.args.entry c.args.to_path.now c.args.to_domain.now c.args.table c.if-table-ge-MOST_ROWS.false
-    (rw c.in-Row.is at c.read_entry.ensures) c.join_row.result c.join_row.new.to_path c.join_row.new.to_domain c.join_row.ensures
+    c.in-Some.ensures c.join_row.result c.join_row.new.to_path c.join_row.new.to_domain c.join_row.ensures
 
-pub join_row-requires-in-Row-read_entry : goal.join_row-requires-in-Row-read_entry
-join_row-requires-in-Row-read_entry c =
-    let found : EntryFound c.args.text.now c.args.entry 82 longest_row_domain c.in-Row-read_entry.row =
-    rw c.in-Row-read_entry.is at c.read_entry-2.ensures in
+pub join_row-requires-2 : goal.join_row-requires-2
+join_row-requires-2 c =
+    let found : EntryFound c.args.text.now c.args.entry 82 longest_row_domain c.in_ok-row.row = c.in_ok-row.ensures in
     record {
       to_path_len = c.requires.to_path_len;
       to_domain_len = c.requires.to_domain_len;
@@ -40,14 +39,14 @@ join_row-requires-in-Row-read_entry c =
       row_inside = found.inside;
     }
 
-pub returns-in-Row-read_entry : goal.returns-in-Row-read_entry
-returns-in-Row-read_entry c =
-    let join = c.join_row-in-Row-read_entry in
+pub returns : goal.returns
+returns c =
+    let join = c.join_row-2 in
     entry_path c.args.text.now c.args.entry c.args.to_path.now c.args.to_domain.now c.args.table c.if-table-ge-MOST_ROWS.false
-    (rw c.in-Bad.is at c.read_entry.ensures) (rw c.in-Row-read_entry.is at c.read_entry-2.ensures)
-    join.result join.new.to_path join.new.to_domain join.ensures
+    c.in_default.ensures c.in_ok-row.ensures join.result join.new.to_path join.new.to_domain join.ensures
 
-pub returns-in-Bad-read_entry : goal.returns-in-Bad-read_entry
-returns-in-Bad-read_entry c =
-    entry_neither c.args.text.now c.args.entry c.args.to_path.now c.args.to_domain.now c.args.table c.if-table-ge-MOST_ROWS.false
-    (rw c.in-Bad.is at c.read_entry.ensures) (rw c.in-Bad-read_entry.is at c.read_entry-2.ensures)
+pub returns-in_err-row : goal.returns-in_err-row
+returns-in_err-row c =
+    rw c.from_residual.ensures
+    (entry_neither c.args.text.now c.args.entry c.args.to_path.now c.args.to_domain.now c.args.table c.if-table-ge-MOST_ROWS.false
+    c.in_default.ensures c.in_err-row.ensures)

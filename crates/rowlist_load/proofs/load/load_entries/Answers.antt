@@ -12,21 +12,20 @@ returns-then-n-eq0 c = refused (listed_none c.args.text.now c.args.numbers.now c
 
 pub load_rest-requires : goal.load_rest-requires
 load_rest-requires c =
-    let found : EntryFound c.args.text.now c.entry_of.result 71 longest_gateway_domain c.in-Row.gateway = rw c.in-Row.is at c.read_entry.ensures in
+    let found : EntryFound c.args.text.now c.entry-entry.result 71 longest_gateway_domain c.in-Some.gateway = c.in-Some.ensures in
     record {
       le_n = omega arith;
-      entry_size_in_bounds = c.requires.entry_size_in_bounds;
       to_path_len = c.requires.to_path_len;
       to_domain_len = c.requires.to_domain_len;
       row_inside = found.inside;
     }
 
-pub returns-in-Row : goal.returns-in-Row
-returns-in-Row c =
-    rw (listed_rows c.args.text.now c.args.numbers.now c.args.n c.entry_of.result c.entry_of.ensures (omega arith)
-    (rw c.in-Row.is at c.read_entry.ensures)) c.load_rest.ensures
+pub returns : goal.returns
+returns c =
+    rw (listed_rows c.args.text.now c.args.numbers.now c.args.n c.entry-entry.result c.entry-entry.ensures (omega arith)
+    c.in-Some.ensures) c.load_rest.ensures
 
-pub returns-in-Bad : goal.returns-in-Bad
-returns-in-Bad c =
+pub returns-in_default : goal.returns-in_default
+returns-in_default c =
     refused
-    (listed_bad c.args.text.now c.args.numbers.now c.args.n c.entry_of.result c.entry_of.ensures (omega arith) (rw c.in-Bad.is at c.read_entry.ensures))
+    (listed_bad c.args.text.now c.args.numbers.now c.args.n c.entry-entry.result c.entry-entry.ensures (omega arith) c.in_default.ensures)

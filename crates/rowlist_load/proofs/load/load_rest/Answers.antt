@@ -8,23 +8,24 @@ use Rattle.rowlist_load.proofs.load.load_rest.Goals as goal
 
 pub loop-i-init : goal.loop-i-init
 loop-i-init c =
-    listing_start c.args.text.now c.args.numbers.now c.args.n c.args.to_path.now c.args.to_domain.now c.args.gateway
+    let e = c.args.entries.now in
+    listing_start e.text.now e.numbers.now e.n c.args.to_path.now c.args.to_domain.now c.args.gateway
     c.requires.le_n c.requires.to_path_len c.requires.to_domain_len c.requires.row_inside
 
 pub add_entry-requires : goal.add_entry-requires
 add_entry-requires c = record { to_path_len = omega arith; to_domain_len = omega arith; kept = c.loop-i.invariant.kept }
 
-pub returns-in-Bad : goal.returns-in-Bad
+pub returns-in_default : goal.returns-in_default
 unfolding load_answer
-returns-in-Bad c = record {
+returns-in_default c = record {
   answers =
-      sym (listing_bad c.loop-i.invariant c.entry_of.result c.entry_of.ensures c.loop-i-test.true (rw c.in-Bad.is at c.add_entry.ensures));
+      sym (listing_bad c.loop-i.invariant c.entry-entry.result c.entry-entry.ensures c.loop-i-test.true c.in_default.ensures);
   kept = tt;
 }
 
 pub loop-i-preserved : goal.loop-i-preserved
 loop-i-preserved c =
-    listing_step c.loop-i.invariant c.entry_of.result c.entry_of.ensures c.loop-i-test.true (rw c.in-Added.is at c.add_entry.ensures)
+    listing_step c.loop-i.invariant c.entry-entry.result c.entry-entry.ensures c.loop-i-test.true c.in-Some.ensures
 
 pub returns : goal.returns
 returns c = listing_end c.loop-i.invariant c.loop-i-test.false

@@ -1,76 +1,70 @@
 -- `rowlist_load::load::read_entry` meets its contract: the kind is tested first, then that both parts are in the text, then the parts.
 -- Assumes nothing.
-use Rattle.std.proofs.Common.{◌∙◌, sym, ◌+◌, length, arith}
-use borrow.Author.Tests.{leb-true}
+use Rattle.std.proofs.Common.{◌∙◌, sym, ◌+◌, ◌≤◌, length, arith}
+use borrow.Author.Tests.{le-leb, lt-leb}
 use Rattle.table.specs.Rows.{between}
 use Rattle.rowlist_load.specs.Listed.{domain_part}
 use Rattle.rowlist_load.proofs.Laws.Entry.{entry_found, entry_long, entry_no_domain, entry_no_path, entry_other, entry_out_domain, entry_out_path}
+use Rattle.rowlist_load.proofs.load.read_entry.Goals.{then-most-entry-via-then-most-entry, then-most-entry-via-else-most-entry+then-not-is_domain}
 use Rattle.rowlist_load.proofs.load.read_entry.Goals as goal
 
 pub returns-then-entry-kind : goal.returns-then-entry-kind
 returns-then-entry-kind c = entry_other c.args.text.now c.args.entry c.args.kind c.args.most c.if-entry-kind.true
 
-pub returns-then-not-is_inside : goal.returns-then-not-is_inside
-returns-then-not-is_inside c =
-    entry_out_domain c.args.text.now c.args.entry c.args.kind c.args.most (sym c.is_inside.ensures ∙ c.if-not-is_inside.true)
+pub returns-in_err-domain_end : goal.returns-in_err-domain_end
+returns-in_err-domain_end c =
+    let a = c.args in
+    let e = a.entry in
+    let out : e.domain + e.domain_len ≤ length a.text.now → ⊥ = c.in_err-domain_end.ensures in
+    rw c.from_residual.ensures
+    (entry_out_domain a.text.now e a.kind a.most (lt-leb (e.domain + e.domain_len) (length a.text.now) (omega arith)))
 
-pub returns-then-not-is_inside-2 : goal.returns-then-not-is_inside-2
-returns-then-not-is_inside-2 c =
-    entry_out_path c.args.text.now c.args.entry c.args.kind c.args.most (sym c.is_inside-2.ensures ∙ c.if-not-is_inside-2.true)
+pub returns-in_err-path_end : goal.returns-in_err-path_end
+returns-in_err-path_end c =
+    let a = c.args in
+    let e = a.entry in
+    let out : e.path + e.path_len ≤ length a.text.now → ⊥ = c.in_err-path_end.ensures in
+    rw c.from_residual-in_err-path_end.ensures
+    (entry_out_path a.text.now e a.kind a.most (lt-leb (e.path + e.path_len) (length a.text.now) (omega arith)))
 
 pub returns-then-most-entry : goal.returns-then-most-entry
-returns-then-most-entry c =
-    entry_long c.args.text.now c.args.entry c.args.kind c.args.most c.if-entry-kind.false c.requires.fact
-    (sym c.is_inside.ensures ∙ c.if-not-is_inside.false) (sym c.is_inside-2.ensures ∙ c.if-not-is_inside-2.false) c.if-most-entry.true
-
-pub overflow_add-domain_end : goal.overflow_add-domain_end
-overflow_add-domain_end c =
-    omega (
-      arith,
-      leb-true (c.args.entry.domain + c.args.entry.domain_len) (length c.args.text.now)
-          (sym c.is_inside.ensures ∙ c.if-not-is_inside.false),
-    )
-
-pub slice_bounds-is_domain-end : goal.slice_bounds-is_domain-end
-slice_bounds-is_domain-end c =
-    omega (
-      arith,
-      leb-true (c.args.entry.domain + c.args.entry.domain_len) (length c.args.text.now)
-          (sym c.is_inside.ensures ∙ c.if-not-is_inside.false),
-    )
-
-pub returns-then-not-is_domain : goal.returns-then-not-is_domain
 unfolding between domain_part
-returns-then-not-is_domain c =
-    entry_no_domain c.args.text.now c.args.entry c.args.kind c.args.most c.if-entry-kind.false c.requires.fact
-    (sym c.is_inside.ensures ∙ c.if-not-is_inside.false) (sym c.is_inside-2.ensures ∙ c.if-not-is_inside-2.false)
-    (sym c.is_domain.ensures ∙ c.if-not-is_domain.true)
-
-pub overflow_add-path_end : goal.overflow_add-path_end
-overflow_add-path_end c =
-    omega (
-      arith,
-      leb-true (c.args.entry.path + c.args.entry.path_len) (length c.args.text.now)
-          (sym c.is_inside-2.ensures ∙ c.if-not-is_inside-2.false),
-    )
-
-pub is_path-requires : goal.is_path-requires
-is_path-requires c = record {
-  at_le_end = omega arith;
-  end_in_bounds =
-      leb-true (c.args.entry.path + c.args.entry.path_len) (length c.args.text.now) (sym c.is_inside-2.ensures ∙ c.if-not-is_inside-2.false);
-}
+returns-then-most-entry c =
+    let a = c.args in
+    let e = a.entry in
+    let domain = c.in_ok-domain_end.ensures in
+    let path = c.in_ok-path_end.ensures in
+    let d = le-leb (e.domain + e.domain_len) (length a.text.now) domain.0 in
+    let p = le-leb (e.path + e.path_len) (length a.text.now) path.0 in
+    elim c.then-most-entry.branch [
+      | then-most-entry-via-then-most-entry w ↦
+          entry_long a.text.now e a.kind a.most c.if-entry-kind.false c.requires.no_tab d p w.if-most-entry.true
+      | then-most-entry-via-else-most-entry+then-not-is_domain w ↦
+          entry_no_domain a.text.now e a.kind a.most c.if-entry-kind.false c.requires.no_tab d p
+          (rw domain.1 at (sym w.is_domain.ensures ∙ w.if-not-is_domain.true))
+    ]
 
 pub returns-then-not-is_path : goal.returns-then-not-is_path
 returns-then-not-is_path c =
-    entry_no_path c.args.text.now c.args.entry c.args.kind c.args.most c.if-entry-kind.false c.requires.fact
-    (sym c.is_inside.ensures ∙ c.if-not-is_inside.false) (sym c.is_inside-2.ensures ∙ c.if-not-is_inside-2.false)
-    (sym c.is_path.ensures ∙ c.if-not-is_path.true)
+    let a = c.args in
+    let e = a.entry in
+    let path = c.in_ok-path_end.ensures in
+    entry_no_path a.text.now e a.kind a.most c.if-entry-kind.false c.requires.no_tab
+    (le-leb (e.domain + e.domain_len) (length a.text.now) c.in_ok-domain_end.ensures.0)
+    (le-leb (e.path + e.path_len) (length a.text.now) path.0)
+    (rw path.1 at (sym c.is_path.ensures ∙ c.if-not-is_path.true))
 
 pub returns : goal.returns
 unfolding between domain_part
 returns c =
-    entry_found c.args.text.now c.args.entry c.args.kind c.args.most c.if-entry-kind.false c.requires.fact
-    (sym c.is_inside.ensures ∙ c.if-not-is_inside.false) (sym c.is_inside-2.ensures ∙ c.if-not-is_inside-2.false)
+    let a = c.args in
+    let e = a.entry in
+    let domain = c.in_ok-domain_end.ensures in
+    let path = c.in_ok-path_end.ensures in
+    rw (domain.1, path.1)
+    (entry_found a.text.now e a.kind a.most c.if-entry-kind.false c.requires.no_tab
+    (le-leb (e.domain + e.domain_len) (length a.text.now) domain.0)
+    (le-leb (e.path + e.path_len) (length a.text.now) path.0)
     c.if-most-entry.false c.requires.most_le_longest_gateway_domain
-    (sym c.is_domain.ensures ∙ c.if-not-is_domain.false) (sym c.is_path.ensures ∙ c.if-not-is_path.false)
+    (rw domain.1 at (sym c.is_domain.ensures ∙ c.if-not-is_domain.false))
+    (rw path.1 at (sym c.is_path.ensures ∙ c.if-not-is_path.false)))

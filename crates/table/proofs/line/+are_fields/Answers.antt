@@ -28,12 +28,13 @@ slice_bounds-is_field-end t c =
     let a = c.args in
     omega (arith, stop_within a.text.now a.at a.end c.part_end-stop.result (omega arith) (omega arith) c.part_end-stop.ensures)
 
-pub returns-then-not-is_field : goal.returns-then-not-is_field
+pub returns-else-is_field : goal.returns-else-is_field
 unfolding between
-returns-then-not-is_field t c =
+returns-else-is_field t c =
     let a = c.args in
     let first = fields-first a.text.now a.at a.end c.part_end-stop.result (omega arith) (omega arith) c.part_end-stop.ensures in
-    sym (fit_stop a.k a.left first (sym c.is_field.ensures ∙ c.if-not-is_field.true))
+    c.if-is_field.false
+    ∙ sym (fit_stop a.k a.left first (sym c.is_field.ensures ∙ c.if-is_field.false))
 
 pub overflow_add-stop : goal.overflow_add-stop
 overflow_add-stop t c =
@@ -43,9 +44,9 @@ overflow_add-stop t c =
 pub are_fields-requires : goal.are_fields-requires
 are_fields-requires t c = (omega arith, (omega arith, omega arith))
 
-pub returns : goal.returns
+pub returns-then-is_field : goal.returns-then-is_field
 unfolding between
-returns t c =
+returns-then-is_field t c =
     let a = c.args in
     let first = fields-first a.text.now a.at a.end c.part_end-stop.result (omega arith) (omega arith) c.part_end-stop.ensures in
-    c.are_fields.ensures ∙ sym (fit_next a.k a.left first (sym c.is_field.ensures ∙ c.if-not-is_field.false) (omega arith))
+    c.are_fields.ensures ∙ sym (fit_next a.k a.left first (sym c.is_field.ensures ∙ c.if-is_field.true) (omega arith))

@@ -13,26 +13,24 @@ use Rattle.mailaddr.specs.Domain.{is_domain}
 use Rattle.table.specs.Lines.{has_tag, row_of}
 use Rattle.table.specs.Rows.{between, row_at}
 use Rattle.table.proofs.Laws.Fields.{between-length, fields-past, line-fields, line_test, line_untabbed, line_untagged, no_path, row-short, stop_within}
+use Rattle.table.proofs.line.read_row.Goals.{then-end-from-via-then-end-from, then-end-from-via-else-end-from+then-text-from, then-end-from-via-else-end-from+else-text-from+then-text-from-ne9, then-stop-end-via-then-stop-end, then-stop-end-via-else-stop-end+then-most-stop, then-not-is_domain-via-then-not-is_domain, then-not-is_domain-via-else-not-is_domain+then-not-is_path}
 use Rattle.table.proofs.line.read_row.Goals as goal
 
 pub returns-then-end-from : goal.returns-then-end-from
 returns-then-end-from c =
     let a = c.args in
     let line = between a.text.now a.from a.end in
-    rw (
-      row-short a.most line (omega (arith, between-length a.text.now a.from a.end (omega arith) (omega arith))),
-      and-false (has_tag a.tag (split 9 line)),
-    )
-
-pub returns-then-text-from : goal.returns-then-text-from
-returns-then-text-from c =
-    let a = c.args in
-    rw (line_untagged a.text.now a.from a.end a.tag (omega arith) (omega arith) c.if-text-from.true)
-
-pub returns-then-text-from-ne9 : goal.returns-then-text-from-ne9
-returns-then-text-from-ne9 c =
-    let a = c.args in
-    rw (line_untabbed a.text.now a.from a.end a.tag (omega arith) (omega arith) c.if-text-from-ne9.true)
+    elim c.then-end-from.branch [
+      | then-end-from-via-then-end-from w ↦
+          rw (
+            row-short a.most line (omega (arith, between-length a.text.now a.from a.end (omega arith) (omega arith))),
+            and-false (has_tag a.tag (split 9 line)),
+          )
+      | then-end-from-via-else-end-from+then-text-from w ↦
+          rw (line_untagged a.text.now a.from a.end a.tag (omega arith) (omega arith) w.if-text-from.true)
+      | then-end-from-via-else-end-from+else-text-from+then-text-from-ne9 w ↦
+          rw (line_untabbed a.text.now a.from a.end a.tag (omega arith) (omega arith) w.if-text-from-ne9.true)
+    ]
 
 pub slice_bounds-part_end-end : goal.slice_bounds-part_end-end
 slice_bounds-part_end-end c =
@@ -44,19 +42,17 @@ returns-then-stop-end c =
     let a = c.args in
     let stop = c.part_end-stop.result in
     line_test a.text.now a.from a.end a.tag (omega arith) (omega arith) stop
-    c.requires.fact c.if-text-from.false c.if-text-from-ne9.false c.part_end-stop.ensures a.most
-    ∙ rw (
-      fields-past a.text.now (stop + 1) a.end (omega arith),
-      no_path,
-      and-false (leb (stop - (a.from + 2)) a.most && is_domain (between a.text.now (a.from + 2) stop)),
-    )
-
-pub returns-then-most-stop : goal.returns-then-most-stop
-returns-then-most-stop c =
-    let a = c.args in
-    line_test a.text.now a.from a.end a.tag (omega arith) (omega arith) c.part_end-stop.result
-    c.requires.fact c.if-text-from.false c.if-text-from-ne9.false c.part_end-stop.ensures a.most
-    ∙ rw (lt-leb (c.part_end-stop.result - (a.from + 2)) a.most c.if-most-stop.true)
+    c.requires.no_tab c.if-text-from.false c.if-text-from-ne9.false c.part_end-stop.ensures a.most
+    ∙ elim c.then-stop-end.branch [
+      | then-stop-end-via-then-stop-end w ↦
+          rw (
+            fields-past a.text.now (stop + 1) a.end (omega arith),
+            no_path,
+            and-false (leb (stop - (a.from + 2)) a.most && is_domain (between a.text.now (a.from + 2) stop)),
+          )
+      | then-stop-end-via-else-stop-end+then-most-stop w ↦
+          rw (lt-leb (stop - (a.from + 2)) a.most w.if-most-stop.true)
+    ]
 
 pub slice_bounds-is_domain-end : goal.slice_bounds-is_domain-end
 slice_bounds-is_domain-end c =
@@ -67,9 +63,18 @@ pub returns-then-not-is_domain : goal.returns-then-not-is_domain
 unfolding between
 returns-then-not-is_domain c =
     let a = c.args in
-    line_test a.text.now a.from a.end a.tag (omega arith) (omega arith) c.part_end-stop.result
-    c.requires.fact c.if-text-from.false c.if-text-from-ne9.false c.part_end-stop.ensures a.most
-    ∙ rw (sym c.is_domain.ensures ∙ c.if-not-is_domain.true, and-false (leb (c.part_end-stop.result - (a.from + 2)) a.most))
+    let stop = c.part_end-stop.result in
+    line_test a.text.now a.from a.end a.tag (omega arith) (omega arith) stop
+    c.requires.no_tab c.if-text-from.false c.if-text-from-ne9.false c.part_end-stop.ensures a.most
+    ∙ elim c.then-not-is_domain.branch [
+      | then-not-is_domain-via-then-not-is_domain w ↦
+          rw (sym c.is_domain.ensures ∙ w.if-not-is_domain.true, and-false (leb (stop - (a.from + 2)) a.most))
+      | then-not-is_domain-via-else-not-is_domain+then-not-is_path w ↦
+          rw (
+            sym w.is_path.ensures ∙ w.if-not-is_path.true,
+            and-false (leb (stop - (a.from + 2)) a.most && is_domain (between a.text.now (a.from + 2) stop)),
+          )
+    ]
 
 pub overflow_add-stop : goal.overflow_add-stop
 overflow_add-stop c =
@@ -80,17 +85,6 @@ pub is_path-requires : goal.is_path-requires
 is_path-requires c =
     let a = c.args in
     omega (arith, stop_within a.text.now (a.from + 2) a.end c.part_end-stop.result (omega arith) (omega arith) c.part_end-stop.ensures)
-
-pub returns-then-not-is_path : goal.returns-then-not-is_path
-returns-then-not-is_path c =
-    let a = c.args in
-    let stop = c.part_end-stop.result in
-    line_test a.text.now a.from a.end a.tag (omega arith) (omega arith) stop
-    c.requires.fact c.if-text-from.false c.if-text-from-ne9.false c.part_end-stop.ensures a.most
-    ∙ rw (
-      sym c.is_path.ensures ∙ c.if-not-is_path.true,
-      and-false (leb (stop - (a.from + 2)) a.most && is_domain (between a.text.now (a.from + 2) stop)),
-    )
 
 pub overflow_add-result : goal.overflow_add-result
 overflow_add-result c =
@@ -105,14 +99,14 @@ returns c =
     let within = stop_within a.text.now (a.from + 2) a.end stop (omega arith) (omega arith) c.part_end-stop.ensures in
     record {
       accepted = line_test a.text.now a.from a.end a.tag (omega arith) (omega arith) stop
-          c.requires.fact c.if-text-from.false c.if-text-from-ne9.false c.part_end-stop.ensures a.most
+          c.requires.no_tab c.if-text-from.false c.if-text-from-ne9.false c.part_end-stop.ensures a.most
           ∙ rw (
             le-leb (stop - (a.from + 2)) a.most (omega arith),
             sym c.is_domain.ensures ∙ c.if-not-is_domain.false,
             sym c.is_path.ensures ∙ c.if-not-is_path.false,
           );
       row = sym (ap row_of (line-fields a.text.now a.from a.end a.tag (omega arith) (omega arith) stop
-          c.requires.fact c.if-text-from.false c.if-text-from-ne9.false c.part_end-stop.ensures));
+          c.requires.no_tab c.if-text-from.false c.if-text-from-ne9.false c.part_end-stop.ensures));
       starts = refl;
       domain = omega arith;
       apart = refl;

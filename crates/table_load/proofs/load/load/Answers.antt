@@ -30,7 +30,7 @@ pub read_row-requires : goal.read_row-requires
 read_row-requires c =
     let e = c.part_end-end in
     let w = within c.args.text.now e.result e.ensures c.if-end-text.false in
-    record { from_le_end = omega arith; end_in_bounds = omega arith; fact = λ e. omega arith }
+    record { from_le_end = omega arith; end_in_bounds = omega arith; no_tab = λ e. omega arith }
 
 pub overflow_add-end : goal.overflow_add-end
 overflow_add-end c = let e = c.part_end-end in omega (arith, within c.args.text.now e.result e.ensures c.if-end-text.false)
@@ -40,7 +40,7 @@ load_rows-requires c =
     let s = c.args.text.now in
     let e = c.part_end-end in
     let w = within s e.result e.ensures c.if-end-text.false in
-    let found : RowFound s 0 e.result 71 longest_gateway_domain c.in-Row.gateway = rw c.in-Row.is at c.read_row.ensures in
+    let found : RowFound s 0 e.result 71 longest_gateway_domain c.in-Some.gateway = c.in-Some.ensures in
     record {
       to_path_len = c.requires.to_path_len;
       to_domain_len = c.requires.to_domain_len;
@@ -48,17 +48,17 @@ load_rows-requires c =
       from_in_bounds = omega arith;
     }
 
-pub returns-in-Row : goal.returns-in-Row
-returns-in-Row c =
+pub returns : goal.returns
+returns c =
     let s = c.args.text.now in
     let e = c.part_end-end in
     let w = within s e.result e.ensures c.if-end-text.false in
-    let found : RowFound s 0 e.result 71 longest_gateway_domain c.in-Row.gateway = rw c.in-Row.is at c.read_row.ensures in
+    let found : RowFound s 0 e.result 71 longest_gateway_domain c.in-Some.gateway = c.in-Some.ensures in
     rw (loaded_rows s (omega arith) e.result e.ensures w found) c.load_rows.ensures
 
-pub returns-in-Bad : goal.returns-in-Bad
-returns-in-Bad c =
+pub returns-in_default : goal.returns-in_default
+returns-in_default c =
     let s = c.args.text.now in
     let e = c.part_end-end in
     let w = within s e.result e.ensures c.if-end-text.false in
-    refused (loaded_bad s (omega arith) e.result e.ensures w (rw c.in-Bad.is at c.read_row.ensures))
+    refused (loaded_bad s (omega arith) e.result e.ensures w c.in_default.ensures)

@@ -50,18 +50,12 @@ add_row-requires c =
       end_in_bounds = omega arith;
     }
 
-pub shape_of-to_path-in-Bad : goal.shape_of-to_path-in-Bad
-shape_of-to_path-in-Bad c = c.add_row.auto.to_path ∙ c.loop-at.invariant.0
-
-pub shape_of-to_domain-in-Bad : goal.shape_of-to_domain-in-Bad
-shape_of-to_domain-in-Bad c = c.add_row.auto.to_domain ∙ c.loop-at.invariant.1
-
-pub returns-in-Bad : goal.returns-in-Bad
-returns-in-Bad c =
+pub returns-in_default : goal.returns-in_default
+returns-in_default c =
     let l = c.loop-at in
     let e = c.part_end-end in
     let w = within c.args.text.now l.at e.result (omega arith) e.ensures c.if-end-text.false in
-    refused (progress_bad l.invariant.2 e.result e.ensures w (rw c.in-Bad.is at c.add_row.ensures))
+    refused (progress_bad l.invariant.2 e.result e.ensures w c.in_default.ensures)
 
 pub overflow_add-at : goal.overflow_add-at
 overflow_add-at c =
@@ -86,7 +80,7 @@ loop-at-preserved c =
     let w = within c.args.text.now l.at e.result (omega arith) e.ensures c.if-end-text.false in (
       c.add_row.auto.to_path ∙ l.invariant.0,
       c.add_row.auto.to_domain ∙ l.invariant.1,
-      progress_step l.invariant.2 e.result e.ensures w (rw c.in-Added.is at c.add_row.ensures),
+      progress_step l.invariant.2 e.result e.ensures w c.in-Some.ensures,
     )
 
 pub shape_of-to_path : goal.shape_of-to_path

@@ -22,71 +22,41 @@ next levels ends k left n =
 pub returns-then-left-eq0 : goal.returns-then-left-eq0
 returns-then-left-eq0 t c =
     let a = c.args in
-    let l : tabbed (tokens_from a.levels.now a.ends.now a.k a.left) ≡ [] =
-    ap (λ (m : ℕ). tabbed (tokens_from a.levels.now a.ends.now a.k m)) c.if-left-eq0.true ∙ tabbed-none a.levels.now a.ends.now a.k in
+    let l : tabbed (tokens_from a.levels.now.bytes.now a.levels.now.ends.now a.k a.left) ≡ [] =
+    ap (λ (m : ℕ). tabbed (tokens_from a.levels.now.bytes.now a.levels.now.ends.now a.k m)) c.if-left-eq0.true ∙ tabbed-none a.levels.now.bytes.now a.levels.now.ends.now a.k in
     rw l wrote_nothing
-
-pub offset_bounds-ends-k : goal.offset_bounds-ends-k
-offset_bounds-ends-k t c = omega (arith, c.requires.ended.room)
-
-pub bounds-ends-k : goal.bounds-ends-k
-bounds-ends-k t c = omega (arith, c.requires.ended.room)
-
-pub overflow_add-b : goal.overflow_add-b
-overflow_add-b t c = omega (arith, c.requires.ended.room)
-
-pub offset_bounds-ends-k-2 : goal.offset_bounds-ends-k-2
-offset_bounds-ends-k-2 t c = omega (arith, c.requires.ended.room)
-
-pub bounds-ends-k-2 : goal.bounds-ends-k-2
-bounds-ends-k-2 t c = omega (arith, c.requires.ended.room)
 
 pub bounds-query-at : goal.bounds-query-at
 bounds-query-at t c =
     let a = c.args in
-    omega (arith, c.requires.left_in_bounds, ap length (next a.levels.now a.ends.now a.k a.left c.if-left-eq0.false))
+    omega (arith, c.requires.left_in_bounds, ap length (next a.levels.now.bytes.now a.levels.now.ends.now a.k a.left c.if-left-eq0.false))
 
 pub overflow_add-at : goal.overflow_add-at
 overflow_add-at t c =
     let a = c.args in
-    omega (arith, c.requires.left_in_bounds, ap length (next a.levels.now a.ends.now a.k a.left c.if-left-eq0.false))
-
-pub slice_bounds-put-count : goal.slice_bounds-put-count
-slice_bounds-put-count t c = c.requires.ended.ordered c.args.k (omega arith)
-
-pub slice_bounds-put-start : goal.slice_bounds-put-start
-slice_bounds-put-start t c =
-    omega (arith, c.requires.ended.ordered c.args.k (omega arith), c.requires.ended.inside c.args.k (omega arith))
-
-pub slice_bounds-put-end : goal.slice_bounds-put-end
-slice_bounds-put-end t c =
-    omega (arith, c.requires.ended.ordered c.args.k (omega arith), c.requires.ended.inside c.args.k (omega arith))
+    omega (arith, c.requires.left_in_bounds, ap length (next a.levels.now.bytes.now a.levels.now.ends.now a.k a.left c.if-left-eq0.false))
 
 pub put-next-requires : goal.put-next-requires
 unfolding between
 put-next-requires t c =
     let a = c.args in
-    let level : List ℕ = between a.levels.now (get_or a.ends.now a.k 0) (get_or a.ends.now (a.k + 1) 0) in
-    let rest : List ℕ = tabbed (tokens_from a.levels.now a.ends.now (a.k + 1) (a.left - 1)) in
-    let l = next a.levels.now a.ends.now a.k a.left c.if-left-eq0.false in
-    omega (arith, c.requires.left_in_bounds, ap length l, length-append level rest, length-set a.query.now a.at 9)
-
-pub overflow_add-k : goal.overflow_add-k
-overflow_add-k t c = omega (arith, c.requires.ended.room)
+    let level : List ℕ = between a.levels.now.bytes.now (get_or a.levels.now.ends.now a.k 0) (get_or a.levels.now.ends.now (a.k + 1) 0) in
+    let rest : List ℕ = tabbed (tokens_from a.levels.now.bytes.now a.levels.now.ends.now (a.k + 1) (a.left - 1)) in
+    let l = next a.levels.now.bytes.now a.levels.now.ends.now a.k a.left c.if-left-eq0.false in
+    omega (arith, c.requires.left_in_bounds, ap length l, length-append level rest, length-set a.query.now a.at 9, ap length c.level.ensures)
 
 pub lay_out-requires : goal.lay_out-requires
 unfolding between
 lay_out-requires t c =
     let a = c.args in
-    let level : List ℕ = between a.levels.now (get_or a.ends.now a.k 0) (get_or a.ends.now (a.k + 1) 0) in
-    let rest : List ℕ = tabbed (tokens_from a.levels.now a.ends.now (a.k + 1) (a.left - 1)) in
-    let l = next a.levels.now a.ends.now a.k a.left c.if-left-eq0.false in
-    let w = c.put-next.ensures in
-    let z : a.k + a.left ≡ a.k + 1 + (a.left - 1) = omega arith in (
+    let level : List ℕ = between a.levels.now.bytes.now (get_or a.levels.now.ends.now a.k 0) (get_or a.levels.now.ends.now (a.k + 1) 0) in
+    let rest : List ℕ = tabbed (tokens_from a.levels.now.bytes.now a.levels.now.ends.now (a.k + 1) (a.left - 1)) in
+    let l = next a.levels.now.bytes.now a.levels.now.ends.now a.k a.left c.if-left-eq0.false in
+    let w = c.put-next.ensures in (
       omega arith,
       (
-        rw z at c.requires.ended,
-        omega (arith, c.requires.left_in_bounds, ap length l, length-append level rest, w.moved, wrote-length w, length-set a.query.now a.at 9),
+        omega arith,
+        omega (arith, c.requires.left_in_bounds, ap length l, length-append level rest, w.moved, wrote-length w, length-set a.query.now a.at 9, ap length c.level.ensures),
       ),
     )
 
@@ -97,5 +67,5 @@ pub returns : goal.returns
 unfolding between
 returns t c =
     let a = c.args in
-    rw (next a.levels.now a.ends.now a.k a.left c.if-left-eq0.false)
-    (wrote_then (wrote_one 9) (wrote_then c.put-next.ensures c.lay_out.ensures))
+    rw (next a.levels.now.bytes.now a.levels.now.ends.now a.k a.left c.if-left-eq0.false)
+    (wrote_then (wrote_one 9) (wrote_then (rw c.level.ensures at c.put-next.ensures) c.lay_out.ensures))

@@ -9,21 +9,21 @@ use Rattle.table_lookup.proofs.lookup.find_path.Goals as goal
 pub lay_out-end-requires : goal.lay_out-end-requires
 lay_out-end-requires c =
     let l = c.requires.laid in
-    record { ended = l.ended; left_in_bounds = omega (arith, room c.args.levels.now c.args.ends.now l) }
+    record { left_bound = omega arith; left_in_bounds = omega (arith, room c.args.levels.now.bytes.now c.args.levels.now.ends.now l) }
 
 pub slice_bounds-find-count : goal.slice_bounds-find-count
 unfolding all
 slice_bounds-find-count c =
     let a = c.args in
     let l = c.requires.laid in
-    (laid_out_lem a.levels.now a.ends.now l.clear (room a.levels.now a.ends.now l) c.lay_out-end.ensures).0
+    (laid_out_lem a.levels.now.bytes.now a.levels.now.ends.now l.clear (room a.levels.now.bytes.now a.levels.now.ends.now l) c.lay_out-end.ensures).0
 
 pub slice_bounds-find-start : goal.slice_bounds-find-start
 unfolding all
 slice_bounds-find-start c =
     let a = c.args in
     let l = c.requires.laid in
-    let d = laid_out_lem a.levels.now a.ends.now l.clear (room a.levels.now a.ends.now l) c.lay_out-end.ensures in
+    let d = laid_out_lem a.levels.now.bytes.now a.levels.now.ends.now l.clear (room a.levels.now.bytes.now a.levels.now.ends.now l) c.lay_out-end.ensures in
     omega (arith, d.0, d.1)
 
 pub slice_bounds-find-end : goal.slice_bounds-find-end
@@ -31,7 +31,7 @@ unfolding all
 slice_bounds-find-end c =
     let a = c.args in
     let l = c.requires.laid in
-    let d = laid_out_lem a.levels.now a.ends.now l.clear (room a.levels.now a.ends.now l) c.lay_out-end.ensures in
+    let d = laid_out_lem a.levels.now.bytes.now a.levels.now.ends.now l.clear (room a.levels.now.bytes.now a.levels.now.ends.now l) c.lay_out-end.ensures in
     omega (arith, d.0, d.1)
 
 pub returns : goal.returns
@@ -39,4 +39,4 @@ unfolding tokens_by all
 returns c =
     let a = c.args in
     let l = c.requires.laid in
-    rw (laid_out_lem a.levels.now a.ends.now l.clear (room a.levels.now a.ends.now l) c.lay_out-end.ensures).2 at c.find.ensures
+    rw (laid_out_lem a.levels.now.bytes.now a.levels.now.ends.now l.clear (room a.levels.now.bytes.now a.levels.now.ends.now l) c.lay_out-end.ensures).2 at c.find.ensures

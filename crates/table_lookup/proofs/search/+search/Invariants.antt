@@ -3,4 +3,4 @@
 use Rattle.table_lookup.proofs.search.+search.Given as goal
 
 abbrev pub decreases-search : goal.decreases-search
-decreases-search l = l.n
+decreases-search l = l.rows.now.n

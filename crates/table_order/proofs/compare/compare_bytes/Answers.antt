@@ -1,25 +1,13 @@
 -- `table_order::compare::compare_bytes` meets its contract. Assumes nothing.
-use mathlib.Core.Path.{sym, ap, ap₂, ◌∙◌}
-use native.Mathlib.Omega.{arith}
+use mathlib.Core.Path.{ap, ap₂, ◌∙◌}
+use Rattle.std.specs.Ordering.{nat_cmp}
+use Rattle.std.specs.Cmp.{nat_cmp_is}
+use Rattle.std.proofs.Common.{Equal}
 use Rattle.table_order.specs.Order.{rank}
-use Rattle.table_order.specs.Place.{by_rank}
-use Rattle.table_order.proofs.Laws.Compare.{rank_greater, rank_less, rank_same}
 use Rattle.table_order.proofs.compare.compare_bytes.Goals as goal
 
 pub returns-then-x-y : goal.returns-then-x-y
-returns-then-x-y c = sym (rank_same _ _ (ap (rank c.args.sep) c.if-x-y.true))
-
-pub returns-then-p-q : goal.returns-then-p-q
-returns-then-p-q c =
-    let r = c in
-    sym (ap₂ by_rank (sym r.rank_of-p.ensures) (sym r.rank_of-q.ensures) ∙ rank_less r.rank_of-p.result r.rank_of-q.result c.if-p-q.true)
-
-pub returns-then-q-p : goal.returns-then-q-p
-returns-then-q-p c =
-    let r = c in
-    sym (ap₂ by_rank (sym r.rank_of-p.ensures) (sym r.rank_of-q.ensures) ∙ rank_greater r.rank_of-p.result r.rank_of-q.result c.if-q-p.true)
+returns-then-x-y c = nat_cmp_is (rank c.args.sep c.args.x) (rank c.args.sep c.args.y) Equal (ap (rank c.args.sep) c.if-x-y.true)
 
 pub returns : goal.returns
-returns c =
-    let r = c in
-    sym (ap₂ by_rank (sym r.rank_of-p.ensures) (sym r.rank_of-q.ensures) ∙ rank_same r.rank_of-p.result r.rank_of-q.result (omega arith))
+returns c = c.cmp.ensures ∙ ap₂ nat_cmp c.rank_of.ensures c.rank_of-2.ensures

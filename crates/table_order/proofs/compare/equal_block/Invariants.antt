@@ -2,13 +2,9 @@
 -- Assumes nothing.
 use mathlib.Core.Path.{◌≡◌}
 use mathlib.Core.Bool.{true}
-use Prim.Native.Nat.{ℕ, ◌-◌, ◌≤◌, ◌<◌}
+use Prim.Native.Nat.{ℕ, ◌<◌}
 use lib.ListN.{get_or}
-use Rattle.table_order.specs.Place.{block_size}
 use Rattle.table_order.proofs.compare.equal_block.Given as goal
 
 abbrev pub invariant-loop-i : goal.invariant-loop-i
-invariant-loop-i l = (l.i ≤ block_size) × (l.same ≡ true → (j : ℕ) → j < l.i → get_or l.a j 0 ≡ get_or l.b j 0)
-
-abbrev pub decreases-loop-i : goal.decreases-loop-i
-decreases-loop-i l = block_size - l.i
+invariant-loop-i l = l.same ≡ true → (j : ℕ) → j < l.i → get_or l.a j 0 ≡ get_or l.b j 0

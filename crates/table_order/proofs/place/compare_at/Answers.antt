@@ -26,34 +26,34 @@ module _ (k : Key) (s ns : List ℕ) (i : ℕ) (p : Row) (q : KeyPlace) (e : q �
 
 pub row_in-requires : goal.row_in-requires
 row_in-requires c =
-    let p = c.requires in
-    record { k_in_bounds = omega (arith, p.ordered.room); k_in_bounds_2 = p.ordered.rows c.args.k p.k_lt_n }
+    let o = c.args.rows.now.ordered in
+    record { k_in_bounds = omega (arith, o.room); row_in_bounds = o.rows c.args.k c.requires.k_lt_n }
 
 pub slice_bounds-compare-count : goal.slice_bounds-compare-count
 slice_bounds-compare-count c =
     let a = c.args in
-    (inside a.key a.text.now a.rows.now a.k _ _ c.key_of-place.ensures c.row_in.ensures (c.requires.ordered.inside a.k c.requires.k_lt_n)).0
+    (inside a.rows.now.key a.rows.now.text.now a.rows.now.numbers.now a.k _ _ c.key_of-place.ensures c.row_in.ensures (c.args.rows.now.ordered.inside a.k c.requires.k_lt_n)).0
 
 pub slice_bounds-compare-start : goal.slice_bounds-compare-start
 slice_bounds-compare-start c =
     let a = c.args in
-    let w = inside a.key a.text.now a.rows.now a.k _ _ c.key_of-place.ensures c.row_in.ensures (c.requires.ordered.inside a.k c.requires.k_lt_n) in
+    let w = inside a.rows.now.key a.rows.now.text.now a.rows.now.numbers.now a.k _ _ c.key_of-place.ensures c.row_in.ensures (c.args.rows.now.ordered.inside a.k c.requires.k_lt_n) in
     omega (arith, w)
 
 pub slice_bounds-compare-end : goal.slice_bounds-compare-end
 slice_bounds-compare-end c =
     let a = c.args in
-    let w = inside a.key a.text.now a.rows.now a.k _ _ c.key_of-place.ensures c.row_in.ensures (c.requires.ordered.inside a.k c.requires.k_lt_n) in
+    let w = inside a.rows.now.key a.rows.now.text.now a.rows.now.numbers.now a.k _ _ c.key_of-place.ensures c.row_in.ensures (c.args.rows.now.ordered.inside a.k c.requires.k_lt_n) in
     omega (arith, w)
 
 pub compare-requires : goal.compare-requires
 unfolding between
 compare-requires c =
     let a = c.args in
-    rw (text a.key a.text.now a.rows.now a.k _ _ c.key_of-place.ensures c.row_in.ensures) c.requires.from_bound
+    rw (text a.rows.now.key a.rows.now.text.now a.rows.now.numbers.now a.k _ _ c.key_of-place.ensures c.row_in.ensures) c.requires.from_bound
 
 pub returns : goal.returns
 unfolding between
 returns c =
     let a = c.args in
-    rw (← text a.key a.text.now a.rows.now a.k _ _ c.key_of-place.ensures c.row_in.ensures) c.compare.ensures
+    rw (← text a.rows.now.key a.rows.now.text.now a.rows.now.numbers.now a.k _ _ c.key_of-place.ensures c.row_in.ensures) c.compare.ensures

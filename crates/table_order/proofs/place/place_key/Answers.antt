@@ -1,20 +1,16 @@
 -- `table_order::place::place_key` meets its contract. The loop's invariant: the search is in the range.
 -- Assumes nothing.
 use native.Mathlib.Omega.{arith}
-use Rattle.table_order.specs.Order.{spell_by}
-use Rattle.table_order.specs.Place.{ranks_in}
+use Rattle.table_order.specs.Ranks.{query_of, ranks_of}
 use Rattle.table_order.proofs.Laws.Insert.{ranks_rise}
 use Rattle.table_order.proofs.Laws.Place.{within_all, within_end}
 use Rattle.table_order.proofs.place.place_key.Goals as goal
 
 pub loop-range-init : goal.loop-range-init
-loop-range-init c = let a = c.args in within_all (ranks_in a.key a.text.now a.rows.now) a.n (spell_by a.key a.query.now)
-
-pub overflow_sub-range : goal.overflow_sub-range
-overflow_sub-range c = c.loop-range.invariant.order
+loop-range-init c = let a = c.args in within_all (ranks_of a.rows.now) a.rows.now.n (query_of a.rows.now a.query.now)
 
 pub narrow-range-requires : goal.narrow-range-requires
-narrow-range-requires c = record { ordered = c.requires; within = c.loop-range.invariant; lo_lt_hi = omega arith }
+narrow-range-requires c = record { within = c.loop-range.invariant; lo_lt_hi = omega arith }
 
 pub loop-range-smaller : goal.loop-range-smaller
 loop-range-smaller c = c.narrow-range.ensures.less
@@ -26,5 +22,5 @@ pub returns : goal.returns
 returns c =
     let a = c.args in
     let l = c.loop-range in
-    within_end (ranks_in a.key a.text.now a.rows.now) a.n (spell_by a.key a.query.now) (ranks_rise c.requires) l.range l.invariant
+    within_end (ranks_of a.rows.now) a.rows.now.n (query_of a.rows.now a.query.now) (ranks_rise c.args.rows.now.ordered) l.range l.invariant
     (omega (arith, l.invariant.order))

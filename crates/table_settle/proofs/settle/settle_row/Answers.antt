@@ -8,9 +8,8 @@ use lib.ListN.{length, length-append}
 use Rattle.oraddr.specs.Add.{told}
 use Rattle.table.specs.Rows.{fields_at, row_at}
 use Rattle.table_settle.specs.Settle.{left_parts, settled_as}
-use Rattle.table_settle.specs.declared.settle.Settled.TheVariants.{PastUnits}
 use Rattle.table_settle.proofs.Laws.Nexts.{noted_count, noted_taken}
-use Rattle.table_settle.proofs.Laws.Settle.{answer_is, settled-past, settled-row}
+use Rattle.table_settle.proofs.Laws.Settle.{settled-past, settled-row}
 use Rattle.table_settle.proofs.settle.settle_row.Goals as goal
 
 pub overflow_sub-k : goal.overflow_sub-k
@@ -28,8 +27,7 @@ returns-then-k-n c =
     let fs = fields_at a.text.now r.path r.path_end in
     let gs = left_parts a.domain.now (length a.domain.now - (r.domain_end - r.domain)) in
     let counted = noted_count r.path fs c.lay_levels-k.result c.lay_levels-k.ensures in
-    answer_is c.without_record.result PastUnits c.without_record.ensures
-    ∙ sym
+    sym
     (settled-past (fs ++ gs)
     (omega (arith, length-append fs gs, counted, c.count_left-n.ensures, c.if-k-n.true, c.requires.row_inside.levels)))
 

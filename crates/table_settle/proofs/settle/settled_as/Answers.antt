@@ -1,10 +1,9 @@
 -- `table_settle::settle::settled_as` meets its contract.
 -- Assumes nothing.
-use mathlib.Core.Path.{sym, ap, ◌∙◌}
+use mathlib.Core.Path.{sym, ap}
 use Rattle.oraddr.specs.Add.{told}
 use Rattle.table_settle.specs.Settle.{settled_as}
-use Rattle.table_settle.specs.declared.settle.Settled.TheVariants.{PastBound}
-use Rattle.table_settle.proofs.Laws.Settle.{answer_is, settled-refused, told-done, told-refused}
+use Rattle.table_settle.proofs.Laws.Settle.{settled-refused, told-done, told-refused}
 use Rattle.table_settle.proofs.settle.settled_as.Goals as goal
 
 pub returns-in-Done : goal.returns-in-Done
@@ -16,5 +15,4 @@ returns-in-Done c =
 pub returns-in-Refused : goal.returns-in-Refused
 returns-in-Refused c =
     let a = c.args in
-    answer_is c.without_record.result PastBound c.without_record.ensures
-    ∙ sym (settled-refused a.n (told a.done) (told-refused a.done c.in-Refused.is))
+    sym (settled-refused a.n (told a.done) (told-refused a.done c.in-Refused.is))

@@ -5,4 +5,4 @@ use Rattle.text_cases.proofs.print.print_name.Goals as goal
 
 pub print_places-requires : goal.print_places-requires
 unfolding NameReading
-print_places-requires c = rw c.in-Name.is at c.read_name.ensures
+print_places-requires c = rw c.in-Some.is at c.read_name.ensures

@@ -1,8 +1,0 @@
--- `date_cases::run` is safe and ends: each line leaves less of the input.
--- Assumes nothing.
-use Prim.Native.Nat.{◌-◌}
-use lib.ListN.{length}
-use Rattle.date_cases.proofs.run.Given as goal
-
-abbrev pub decreases-loop-from : goal.decreases-loop-from
-decreases-loop-from l = length l.s - l.from
