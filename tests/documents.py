@@ -68,7 +68,7 @@ def declared(path):
 
 def tracked():
     """The project's files: not what is built, nor what git keeps."""
-    built = {"target", ".git", "__pycache__"}
+    built = {"target", "out", ".git", "__pycache__"}
     return [p for p in TOP.rglob("*") if p.is_file() and not built & set(p.relative_to(TOP).parts)]
 
 
