@@ -1,7 +1,7 @@
 #!/usr/bin/env python3
 """Every file, function and definition that the documents name exists, where they say that it stands.
 
-Read are README.md and docs/*.md but docs/CHANGES.md, docs/PORT.md and docs/DESIGN-PASS.md, which name what went as well; of these only what stands in backquotes counts:
+Read are README.md and docs/*.md but docs/CHANGES.md, docs/PORT.md, docs/DESIGN-PASS.md and docs/LOOK-BACK.md, which name what went as well; of these only what stands in backquotes counts:
 - a path, from the top, from crates/ or from docs/, is there; a file's name alone is some file's;
 - `crate/edit`, without an ending, is that crate's must-fail edit;
 - names behind a path, or before the word "of" and a path or a crate, are declared in that file or below that folder;
@@ -180,7 +180,7 @@ def main():
     wrong = []
     count = check_limits(wrong)
     for document in [TOP / "README.md", *sorted((TOP / "docs").glob("*.md"))]:
-        if document.name not in ("CHANGES.md", "PORT.md", "DESIGN-PASS.md"):
+        if document.name not in ("CHANGES.md", "PORT.md", "DESIGN-PASS.md", "LOOK-BACK.md"):
             for number, block in paragraphs(document.read_text()):
                 count += check(f"{document.relative_to(TOP)}:{number}", block, wrong)
     for line in wrong:

@@ -108,7 +108,7 @@ fn behind(s: &[u8], k: usize) -> &[u8]
 }
 
 // The three bytes from a place on, or as many as there are.
-fn three(s: &[u8], k: usize) -> &[u8]
+pub fn three(s: &[u8], k: usize) -> &[u8]
     ensures { result.now ≡ take 3 (drop k s.now) }
 {
     let rest = behind(s, k);

@@ -12,6 +12,7 @@ ghost use Rattle.soundness.specs.Check.{Demand3, told_check};
 ghost use Rattle.router.specs.Run.{Routing};
 
 use mapping::answers::{AddressRefusal, RecordRefusal};
+use mapping::sides::Inward;
 use mapping_to_address::to_address::record_under;
 use mapping_to_record::to_record::address_under;
 use oraddr::record::Record;
@@ -34,7 +35,7 @@ pub fn numbers_to_record(
     let mut to_path = [0usize; ROWS_SIZE];
     let mut to_domain = [0usize; ROWS_SIZE];
     let read = read_list(text, numbers, n, &mut to_path, &mut to_domain);
-    address_under(read, address)
+    address_under(Inward::of_read(read), address)
 }
 
 // A record to an address in a lent buffer.

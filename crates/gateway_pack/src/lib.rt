@@ -59,7 +59,7 @@ pub fn pack_result<E: Into<usize>>(done: Result<usize, E>) -> usize
 }
 
 // A text in `out`, if it fits.
-#[tactic(auto, unfolding(crate::specs::Filled::filled, chars::specs::Write::placed_buffer))]
+#[tactic(auto, using(std::proofs::lemmas::Bool::Decides::nat_tests, chars::proofs::Laws::Write::fits_front), unfolding(crate::specs::Filled::filled, chars::specs::Write::placed_buffer))]
 pub fn fill(out: &mut [u8], s: &[u8])
     ensures { out.new ≡ filled s.now out.old }
 {

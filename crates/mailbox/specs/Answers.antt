@@ -1,11 +1,12 @@
 -- What the answers of the code that reads a whole mailbox stand for.
 -- Assumes nothing.
-use Rattle.std.specs.Prelude.{◌≡◌, ℕ, ◌-◌, ◌≤◌, cond, List, Option, None, Some, Result, Ok, Err, IfSome, IfOk, MatchResult, length, take, drop}
+use Rattle.std.specs.Prelude.{◌≡◌, ℕ, ◌-◌, ◌≤◌, cond, List, Option, None, Some, Result, Ok, Err, IfSome, MatchResult, length, take, drop}
 use Rattle.std.proofs.Math.Option as math
 use Rattle.chars.specs.Parts.{Place}
 use Rattle.lexical.specs.Answers.{Stands, tokens_of}
+use Rattle.lexical.specs.Tokens.{longest_line}
 use Rattle.mailbox_address.specs.Grammar.{Mailbox, Phrase, route_addr, whole}
-use Rattle.mailbox.specs.Mailbox.{Bare, MailboxResult, Reading, empty_start, no_mailbox, read, reading, too_deep, too_long}
+use Rattle.mailbox.specs.Mailbox.{Bare, MailboxResult, Reading, bare_in, empty_start, no_mailbox, read, reading, reading_of, too_deep, too_long}
 use Rattle.mailbox.specs.declared.entry.MailboxFault.{MailboxFault}
 use Rattle.mailbox.specs.declared.entry.MailboxFault.TheVariants.{NoMailbox, ShortBuffer, TooDeep, TooLong}
 use Rattle.mailbox.specs.declared.entry.MailboxWritten.{MailboxWritten}
@@ -69,9 +70,9 @@ Refused too_deep f = f ≡ TooDeep
 Refused no_mailbox f = f ≡ NoMailbox
 Refused (read b) f = ⊥
 
-pub record ReadsLine (s : List ℕ) (r : Result MailboxRead MailboxFault) (new : List ℕ) : Type 0 where
-  pub told : MatchResult r (λ m. reading s ≡ read (bare_at m new)) (Refused (reading s))
-  pub sizes : IfOk r (λ m. (m.local ≤ m.size) × (m.size ≤ length new))
+-- whether a line is read on: it is no longer than the longest, and reads as what the mailbox in it is
+abbrev pub JudgesLine : List ℕ → Result Unit MailboxFault → Type 0
+JudgesLine s r = MatchResult r (λ _. (length s ≤ longest_line) × (reading s ≡ reading_of (bare_in s))) (Refused (reading s))
 
 -- request 2's number for each refusal
 abbrev pub mailbox_number : MailboxFault → ℕ

@@ -80,7 +80,7 @@ fn named(dst: &mut [u8], s: &[u8], word: Lexeme, second: Lexeme) -> Option<Mailb
     ensures { ReadsMailbox s.now (bare_of (named_by word.start (phrase_from word.end (tokens_of s.now second)))) result dst.new }
 {
     let p = phrase_end(s, word.end, second);
-    let a = route_addr(dst, s, p.next)?;
+    let a = route_addr(dst, s, p.next).ok()?;
     mailbox_of(a, word.start, p.end - word.start)
 }
 
@@ -90,7 +90,7 @@ fn bare(dst: &mut [u8], s: &[u8], word: Lexeme) -> Option<MailboxRead>
     requires s_in_bounds { length s.now ≤ length dst.old }
     ensures { ReadsMailbox s.now (bare_of (whole 0 0 (addr_spec (tokens_of s.now word)))) result dst.new }
 {
-    let a = addr_spec(dst, s, word)?;
+    let a = addr_spec(dst, s, word).ok()?;
     mailbox_of(a, 0, 0)
 }
 

@@ -1,6 +1,6 @@
 -- What the answers of the code that reads an address stand for.
 -- Assumes nothing.
-use Rattle.std.specs.Prelude.{◌≡◌, ℕ, ◌+◌, ◌-◌, ◌≤◌, Bool, true, false, ◌||◌, cond, List, [], ◌++◌, Option, None, Some, IfSome, eqb, take, drop}
+use Rattle.std.specs.Prelude.{◌≡◌, ℕ, ◌+◌, ◌-◌, ◌≤◌, Bool, true, false, ◌||◌, cond, List, [], ◌++◌, Option, None, Some, Result, Ok, Err, IfOk, MatchResult, eqb, take, drop}
 use Rattle.std.proofs.Math.Option as math
 use Rattle.lexical.specs.Answers.{Stands, tokens_of}
 use Rattle.lexical.specs.Quoted.{meaning_in, quoted}
@@ -77,15 +77,16 @@ unfolding meaning_of any_quoted
 after sofar q math.none = math.none
 after sofar q (math.some d) = math.some (record { text = sofar ++ meaning_of d.words; is_quoted = q || any_quoted d.words; rest = d.rest })
 
-unfoldable pub told_dotted : List ℕ → Option DottedRead → List ℕ → math.Option DottedText
+unfoldable pub told_dotted : List ℕ → Result DottedRead Lexeme → List ℕ → math.Option DottedText
 unfolding tokens_of
-told_dotted s None new = math.none
-told_dotted s (Some r) new = math.some (record { text = take r.size new; is_quoted = r.quoted; rest = tokens_of s r.next })
+told_dotted s (Err t) new = math.none
+told_dotted s (Ok r) new = math.some (record { text = take r.size new; is_quoted = r.quoted; rest = tokens_of s r.next })
 
-pub record ReadsDotted (s : List ℕ) (o : math.Option DottedText) (r : Option DottedRead) (new : List ℕ) : Type 0 where
+-- the token behind them stands in the line, and where there are none, that where reading stopped
+pub record ReadsDotted (s : List ℕ) (o : math.Option DottedText) (r : Result DottedRead Lexeme) (new : List ℕ) : Type 0 where
   pub told : told_dotted s r new ≡ o
-  pub stands : IfSome r (λ d. Stands s d.next)
-  pub low : IfSome r (λ d. d.size ≤ d.next.start)
+  pub stands : MatchResult r (λ d. Stands s d.next) (Stands s)
+  pub low : IfOk r (λ d. d.size ≤ d.next.start)
 
 -- ---- an addr-spec
 
@@ -106,17 +107,18 @@ unfolding meaning_of
 domain_text x q math.none = math.none
 domain_text x q (math.some d) = math.some (record { local = x; is_quoted = q; domain = meaning_of d.words; rest = d.rest })
 
-unfoldable pub told_spec : List ℕ → Option SpecRead → List ℕ → math.Option SpecText
+unfoldable pub told_spec : List ℕ → Result SpecRead Lexeme → List ℕ → math.Option SpecText
 unfolding tokens_of
-told_spec s None new = math.none
-told_spec s (Some r) new =
+told_spec s (Err t) new = math.none
+told_spec s (Ok r) new =
     math.some (record { local = take r.local new; is_quoted = r.quoted; domain = drop r.local (take r.size new); rest = tokens_of s r.next })
 
-pub record ReadsSpec (s : List ℕ) (o : math.Option SpecText) (r : Option SpecRead) (new : List ℕ) : Type 0 where
+-- the token behind it stands in the line, and where there is none, that where reading stopped
+pub record ReadsSpec (s : List ℕ) (o : math.Option SpecText) (r : Result SpecRead Lexeme) (new : List ℕ) : Type 0 where
   pub told : told_spec s r new ≡ o
-  pub stands : IfSome r (λ a. Stands s a.next)
-  pub low : IfSome r (λ a. a.size ≤ a.next.start)
-  pub parted : IfSome r (λ a. a.local ≤ a.size)
+  pub stands : MatchResult r (λ a. Stands s a.next) (Stands s)
+  pub low : IfOk r (λ a. a.size ≤ a.next.start)
+  pub parted : IfOk r (λ a. a.local ≤ a.size)
 
 -- ---- a route
 
@@ -169,11 +171,12 @@ route_step p (Special b) = special_step p b
 route_step p End = None
 route_step p Bad = None
 
-unfoldable pub told_route : List ℕ → Option Lexeme → math.Option (List Token)
+unfoldable pub told_route : List ℕ → Result Lexeme Lexeme → math.Option (List Token)
 unfolding tokens_of
-told_route s None = math.none
-told_route s (Some t) = math.some (tokens_of s t)
+told_route s (Err t) = math.none
+told_route s (Ok t) = math.some (tokens_of s t)
 
-pub record ReadsRoute (s : List ℕ) (o : math.Option (List Token)) (r : Option Lexeme) : Type 0 where
+-- the token behind it stands in the line, and where there is none, that where reading stopped
+pub record ReadsRoute (s : List ℕ) (o : math.Option (List Token)) (r : Result Lexeme Lexeme) : Type 0 where
   pub told : told_route s r ≡ o
-  pub stands : IfSome r (Stands s)
+  pub stands : MatchResult r (Stands s) (Stands s)

@@ -72,14 +72,14 @@ fn put_word(dst: &mut [u8], at: usize, s: &[u8], t: Lexeme) -> usize
     }
 }
 
-// Words joined by dots from a token on, their text written at `at`.
+// Words joined by dots from a token on, their text written at `at`; where none stand, the token where reading stopped.
 fn read_dotted(
     dst: &mut [u8],
     at: usize,
     s: &[u8],
     first: Lexeme,
     quotable: bool,
-) -> Option<DottedRead>
+) -> Result<DottedRead, Lexeme>
     requires stands { Stands s.now first }
     requires at_le_start { (at ≤ first.start) × (length s.now ≤ length dst.old) }
     ensures { ReadsDotted s.now (after (take at dst.old) false (dotted (allowed quotable) (tokens_of s.now first))) result dst.new }
@@ -91,13 +91,13 @@ fn read_dotted(
     loop {
         let kind = t.kind;
         if !is_allowed(kind, quotable) {
-            return None;
+            return Err(t);
         }
         let end = put_word(dst, size, s, t);
         quoted |= is_quoted(kind);
         let next = next_token(s, t.end);
         if !is_special(next.kind, b'.') {
-            return Some(DottedRead {
+            return Ok(DottedRead {
                 size: end,
                 quoted,
                 next,
@@ -109,15 +109,15 @@ fn read_dotted(
     }
 }
 
-// The domain behind a local part, the token behind that being its `@`.
-fn read_domain(dst: &mut [u8], s: &[u8], l: DottedRead) -> Option<SpecRead>
+// The domain behind a local part, the token behind that being its `@`; where none stands, the token where reading stopped.
+fn read_domain(dst: &mut [u8], s: &[u8], l: DottedRead) -> Result<SpecRead, Lexeme>
     requires stands { Stands s.now l.next }
     requires size_le_start { (l.size ≤ l.next.start) × (length s.now ≤ length dst.old) }
     ensures { ReadsSpec s.now (domain_text (take l.size dst.old) l.quoted (domain (tokens_at s.now l.next.end))) result dst.new }
 {
     let first = next_token(s, l.next.end);
     let d = read_dotted(dst, l.size, s, first, false)?;
-    Some(SpecRead {
+    Ok(SpecRead {
         local: l.size,
         size: d.size,
         quoted: l.quoted,
@@ -125,15 +125,16 @@ fn read_domain(dst: &mut [u8], s: &[u8], l: DottedRead) -> Option<SpecRead>
     })
 }
 
-// An addr-spec from a token on: the text of its local part at the buffer's front, and the text of its domain behind that.
-pub fn addr_spec(dst: &mut [u8], s: &[u8], first: Lexeme) -> Option<SpecRead>
+// An addr-spec from a token on: the text of its local part at the buffer's front, and the text of its domain behind that. Where none stands, the token
+// where reading stopped.
+pub fn addr_spec(dst: &mut [u8], s: &[u8], first: Lexeme) -> Result<SpecRead, Lexeme>
     requires stands { Stands s.now first }
     requires s_in_bounds { length s.now ≤ length dst.old }
     ensures { ReadsSpec s.now (spec_text (addr_spec (tokens_of s.now first))) result dst.new }
 {
     let l = read_dotted(dst, 0, s, first, true)?;
     if !is_special(l.next.kind, b'@') {
-        return None;
+        return Err(l.next);
     }
     read_domain(dst, s, l)
 }

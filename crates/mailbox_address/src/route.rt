@@ -82,8 +82,8 @@ fn is_over(state: RouteState) -> bool
     matches!(state, RouteState::Over)
 }
 
-// A route from a token on: the token behind its colon.
-fn skip_route(s: &[u8], first: Lexeme) -> Option<Lexeme>
+// A route from a token on: the token behind its colon; where none stands, the token where reading stopped.
+fn skip_route(s: &[u8], first: Lexeme) -> Result<Lexeme, Lexeme>
     requires { Stands s.now first }
     ensures { ReadsRoute s.now (route (element false) (tokens_of s.now first)) result }
 {
@@ -91,47 +91,47 @@ fn skip_route(s: &[u8], first: Lexeme) -> Option<Lexeme>
     let mut state = RouteState::Start;
     // loop: a token says where the next one starts, and the state where the route ends
     loop {
-        state = route_step(state, t.kind)?;
+        state = route_step(state, t.kind).ok_or(t)?;
         t = next_token(s, t.end);
         if is_over(state) {
-            return Some(t);
+            return Ok(t);
         }
     }
 }
 
-// The token behind a route, if one stands there: an addr-spec begins with a word, and a route does not.
-fn optional_route(s: &[u8], first: Lexeme) -> Option<Lexeme>
+// The token behind a route, if one stands there: an addr-spec begins with a word, and a route does not. Else the token where reading stopped.
+fn optional_route(s: &[u8], first: Lexeme) -> Result<Lexeme, Lexeme>
     requires { Stands s.now first }
     ensures { ReadsRoute s.now (optional_route (tokens_of s.now first)) result }
 {
     if is_word(first.kind) {
-        return Some(first);
+        return Ok(first);
     }
     skip_route(s, first)
 }
 
-// The address behind `<` and a route, to behind its `>`.
-fn address_in(dst: &mut [u8], s: &[u8], first: Lexeme) -> Option<SpecRead>
+// The address behind `<` and a route, to behind its `>`; where it does not stand there, the token where reading stopped.
+fn address_in(dst: &mut [u8], s: &[u8], first: Lexeme) -> Result<SpecRead, Lexeme>
     requires stands { Stands s.now first }
     requires s_in_bounds { length s.now ≤ length dst.old }
     ensures { ReadsSpec s.now (spec_text (closed_by (addr_spec (tokens_of s.now first)))) result dst.new }
 {
     let a = addr_spec(dst, s, first)?;
     if !is_special(a.next.kind, b'>') {
-        return None;
+        return Err(a.next);
     }
     let next = next_token(s, a.next.end);
-    Some(SpecRead { next, ..a })
+    Ok(SpecRead { next, ..a })
 }
 
-// A route-addr from a token on.
-pub fn route_addr(dst: &mut [u8], s: &[u8], first: Lexeme) -> Option<SpecRead>
+// A route-addr from a token on; where none stands, the token where reading stopped.
+pub fn route_addr(dst: &mut [u8], s: &[u8], first: Lexeme) -> Result<SpecRead, Lexeme>
     requires stands { Stands s.now first }
     requires s_in_bounds { length s.now ≤ length dst.old }
     ensures { ReadsSpec s.now (spec_text (route_addr (tokens_of s.now first))) result dst.new }
 {
     if !is_special(first.kind, b'<') {
-        return None;
+        return Err(first);
     }
     let inner = next_token(s, first.end);
     let t = optional_route(s, inner)?;

@@ -107,6 +107,7 @@ impl From<Malformed> for RecordRefusal {
 }
 
 // Copies a text out, if it fits.
+#[tactic(auto, using(std::proofs::lemmas::Bool::Decides::nat_tests, chars::proofs::Laws::Write::fits_front), unfolding(crate::specs::Results::placed, crate::specs::Results::refused_address, crate::specs::Answers::told_address, crate::specs::Answers::address_number, crate::specs::Answers::address_bad_line, chars::specs::Write::placed_size, chars::specs::Write::placed_buffer))]
 pub fn place(out: &mut [u8], s: &[u8]) -> Result<usize, AddressRefusal>
     ensures { told_address result out.new ≡ placed s.now out.old }
 {

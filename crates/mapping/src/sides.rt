@@ -2,12 +2,13 @@
 ghost use Rattle.std.specs.Prelude.{◌≡◌, List, ℕ};
 ghost use Rattle.oraddr.specs.Attributes.{Attributes};
 ghost use Rattle.table.specs.Rows.{table_at};
+ghost use Rattle.table_load.specs.Tables.{table_answer};
 ghost use Rattle.mapping.specs.Answers.{inward, outward};
 ghost use Rattle.mapping.specs.Sides.{KeptInward, KeptInward-prop, KeptOutward, KeptOutward-prop};
 ghost use Rattle.mapping.specs.ToAddress.{address_of};
-ghost use Rattle.mapping.specs.ToRecord.{to_record};
+ghost use Rattle.mapping.specs.ToRecord.{to_record, to_record_by};
 
-use table::load::Loaded;
+use table::load::{Loaded, Malformed};
 use table_load::tables::Table;
 
 // What address to record reads.
@@ -29,6 +30,8 @@ pub struct Outward<'a> {
 }
 
 impl<'a> Inward<'a> {
+    ghost use Rattle.mapping.specs.Read.{inward_answer};
+
     // An address comes to the same record under both.
     pub fn of(table: &Table<'a>) -> Inward<'a>
         ensures { (s : List ℕ) → to_record (inward result.text.now result.to_path.now result.loaded) s
@@ -39,6 +42,13 @@ impl<'a> Inward<'a> {
             to_path: table.to_path,
             loaded: table.loaded,
         }
+    }
+
+    // The same of what a table was read as, with the line of one that is malformed.
+    pub fn of_read(read: Result<Table<'a>, Malformed>) -> Result<Inward<'a>, Malformed>
+        ensures { (s : List ℕ) → to_record_by (inward_answer result) s ≡ to_record_by (table_answer read.entry) s }
+    {
+        Ok(Inward::of(&read?))
     }
 }
 

@@ -4,10 +4,10 @@ ghost use Rattle.std.specs.Prelude.{◌≡◌, ◌<◌, ◌≤◌, length};
 ghost use Rattle.ortext_read.specs.Answers.{reading_result, told_reading};
 ghost use Rattle.mailaddr.specs.Answers.{address_at, local_at};
 ghost use Rattle.mailaddr.specs.Shape.{longest_address};
-ghost use Rattle.table_load.specs.Tables.{table_answer};
 ghost use Rattle.table_settle.specs.Settle.{settlement_answer};
 ghost use Rattle.mapping.specs.Answers.{inward, read_settled, read_well, record_parted, told_record};
 ghost use Rattle.mapping.specs.Carried.{settled_under};
+ghost use Rattle.mapping.specs.Read.{inward_answer};
 ghost use Rattle.mapping.specs.ToRecord.{address_to_record, to_record, to_record_by};
 
 use crate::carrier::carry;
@@ -24,7 +24,6 @@ use ortext_read::read::{TextFault, read_local};
 use table::load::Malformed;
 use table::rows::ROWS_SIZE;
 use table_load::read::read_table;
-use table_load::tables::Table;
 use table_settle::settle::{Settlement, Unsettled, settle};
 
 // Step 1: the levels that a domain settles; at the gateway's, none.
@@ -33,10 +32,11 @@ fn settle_under(table: &Inward, domain: &[u8]) -> Result<Settlement, Unsettled>
 {
     let gateway = table.loaded.gateway;
     if same_text(&table.text[gateway.domain..gateway.domain_end], domain) {
-        return Ok(Settlement {
+        let none = Settlement {
             levels: 0,
             record: Record::empty(),
-        });
+        };
+        return Ok(none);
     }
     settle(table.text, table.to_path, table.loaded.to_path, domain)
 }
@@ -45,11 +45,10 @@ fn settle_under(table: &Inward, domain: &[u8]) -> Result<Settlement, Unsettled>
 fn read_over(settled: &Settlement, s: &[u8]) -> Result<Record, TextFault>
     ensures { told_reading result ≡ reading_result (read_settled settled.now.levels settled.now.«record» s.now) }
 {
-    if is_readable(s) {
-        read_local(settled.record, settled.levels, s)
-    } else {
-        Err(TextFault::Unread)
+    if !is_readable(s) {
+        return Err(TextFault::Unread);
     }
+    read_local(settled.record, settled.levels, s)
 }
 
 // Steps 2 to 4 over settled levels, by way of an unquoted copy of the local part.
@@ -86,10 +85,10 @@ fn read_parted(table: &Inward, s: &[u8], parted: Parted) -> Result<Record, TextF
     if !is_domain(domain) {
         return Err(TextFault::Unread);
     }
-    match settle_under(table, domain) {
-        Ok(settled) => read_under(&settled, s, parted),
-        Err(_) => Err(TextFault::Unread),
-    }
+    let Ok(settled) = &settle_under(table, domain) else {
+        return Err(TextFault::Unread);
+    };
+    read_under(settled, s, parted)
 }
 
 // The record of an address that has the accepted shape, or the address carried whole.
@@ -98,8 +97,8 @@ fn map_shaped(table: &Inward, s: &[u8], parted: Parted) -> Result<Record, Record
     requires at_in_bounds { parted.at < length s.now }
     ensures { told_record result ≡ record_parted (inward table.now.text.now table.now.to_path.now table.now.loaded) s.now parted }
 {
-    match read_parted(table, s, parted) {
-        Ok(rec) if is_canonical(rec) => Ok(rec),
+    match &read_parted(table, s, parted) {
+        Ok(rec) if is_canonical(*rec) => Ok(*rec),
         _ => carry(table.text, table.loaded.gateway, s),
     }
 }
@@ -115,11 +114,11 @@ pub fn map_address(table: &Inward, s: &[u8]) -> Result<Record, RecordRefusal>
     }
 }
 
-// An address to a record, under what a table was read as.
-pub fn address_under(read: Result<Table, Malformed>, s: &[u8]) -> Result<Record, RecordRefusal>
-    ensures { told_record result ≡ to_record_by (table_answer read.entry) s.now }
+// An address to a record, under what a table was read as: its gateway and its rows to a path, or its first bad line.
+pub fn address_under(read: Result<Inward, Malformed>, s: &[u8]) -> Result<Record, RecordRefusal>
+    ensures { told_record result ≡ to_record_by (inward_answer read.entry) s.now }
 {
-    map_address(&Inward::of(&read?), s)
+    map_address(&read?, s)
 }
 
 // An address to a record, under a table text.
@@ -128,5 +127,6 @@ pub fn address_to_record(table: &[u8], s: &[u8]) -> Result<Record, RecordRefusal
 {
     let mut to_path = [0usize; ROWS_SIZE];
     let mut to_domain = [0usize; ROWS_SIZE];
-    address_under(read_table(table, &mut to_path, &mut to_domain), s)
+    let read = read_table(table, &mut to_path, &mut to_domain);
+    address_under(Inward::of_read(read), s)
 }

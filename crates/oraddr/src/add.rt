@@ -50,9 +50,15 @@ impl Record {
         requires { k < single_count }
         ensures { told result ≡ add_single self k value.now }
     {
-        if !keeps_rule(k, value) || self.singles.values[k].len != 0 {
+        if !keeps_rule(k, value) {
             return Addition {
-                record: self, // breaks its rule, or is there already
+                record: self,
+                answer: Added::Refused,
+            };
+        }
+        if self.singles.values[k].len != 0 {
+            return Addition {
+                record: self, // there already
                 answer: Added::Refused,
             };
         }
@@ -75,11 +81,17 @@ impl Record {
     pub fn with_unit(mut self, name: &[u8]) -> Addition
         ensures { told result ≡ add_unit self name.now }
     {
-        let count = self.units.count;
-        if !is_value(OU, name) || MOST <= count {
+        if !is_value(OU, name) {
             return Addition {
                 record: self,
-                answer: Added::Refused, // no value, or a fifth unit
+                answer: Added::Refused,
+            };
+        }
+        let count = self.units.count;
+        if MOST <= count {
+            return Addition {
+                record: self,
+                answer: Added::Refused, // a fifth unit
             };
         }
         self.units.names[count] = OrgUnit::of(name);

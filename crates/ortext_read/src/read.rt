@@ -2,9 +2,9 @@
 // `Named` holds places without their text, which travels beside it; that they lie in it is asked.
 ghost use Rattle.std.specs.Prelude.{◌≡◌};
 ghost use Rattle.ortext_segments.specs.Keys.{keys};
-ghost use Rattle.ortext_read.specs.Apply.{complete, finish, or_name, read_as_name, read_local, read_text};
+ghost use Rattle.ortext_read.specs.Apply.{finish, read_as_name, read_local, read_text};
 ghost use Rattle.ortext_name.specs.Name.{read_name};
-ghost use Rattle.ortext_read.specs.Answers.{fault_reading, read_held, reading_result, told_reading};
+ghost use Rattle.ortext_read.specs.Answers.{read_held, reading_result, told_reading};
 ghost use Rattle.ortext_named.specs.Named.{AllSound};
 ghost use Rattle.oraddr.specs.Add.{told};
 
@@ -25,24 +25,18 @@ pub enum TextFault {
     Again,
 }
 
-// C present without ADMD means that ADMD is one space.
-fn completed(rec: Record) -> Record
-    ensures { result ≡ complete rec }
+// The end of a reading: the record after all additions, completed, or the refusal. C present without ADMD means that ADMD is one space.
+fn finished(done: &Addition) -> Result<Record, TextFault>
+    ensures { told_reading result ≡ reading_result (finish (told done.now)) }
 {
+    if let Added::Refused = done.answer {
+        return Err(TextFault::Refused);
+    }
+    let rec = &done.record;
     if rec.single(C).size() == 0 || 0 < rec.single(ADMD).size() {
-        return rec;
+        return Ok(*rec);
     }
-    rec.with_single(ADMD, b" ").record
-}
-
-// The end of a reading: the record after all additions, completed, or the refusal.
-fn finished(done: Addition) -> Result<Record, TextFault>
-    ensures { told_reading result ≡ reading_result (finish (told done)) }
-{
-    match done.answer {
-        Added::Done => Ok(completed(done.record)),
-        Added::Refused => Err(TextFault::Refused),
-    }
+    Ok(rec.with_single(ADMD, b" ").record)
 }
 
 // What the segments of a text name, once they are all read.
@@ -56,7 +50,7 @@ fn applied(rec: Record, s: &[u8], named: Named) -> Result<Record, TextFault>
     if named.bad || named.is_beside() {
         return Err(TextFault::Refused);
     }
-    finished(add_named(rec, s, named))
+    finished(&add_named(rec, s, named))
 }
 
 // Reads `s` as record text over a record with the first n levels settled.
@@ -84,27 +78,22 @@ fn as_name(rec: Record, s: &[u8]) -> Result<Record, TextFault>
     ensures { told_reading result ≡ reading_result (read_as_name rec (read_name s.now)) }
 {
     match read_name(s) {
-        Some(places) => finished(add_name(rec, s, places)),
+        Some(places) => finished(&add_name(rec, s, places)),
         None => Err(TextFault::Unread),
     }
 }
 
-// Reads `s` as a personal name where it does not read as record text.
-fn or_name(fault: TextFault, rec: Record, s: &[u8]) -> Result<Record, TextFault>
-    ensures { told_reading result ≡ reading_result (or_name rec s.now (fault_reading fault)) }
-{
-    match fault {
-        TextFault::Unread => as_name(rec, s),
-        TextFault::Refused | TextFault::Again => Err(fault),
-    }
-}
-
-// Reads `s`, an unquoted local part, as record text or else as a personal name.
+// Reads `s`, an unquoted local part, as record text or else as a personal name. What the first reading came to is handed on whole: taking
+// its record out and putting it back would copy it.
 pub fn read_local(rec: Record, n: usize, s: &[u8]) -> Result<Record, TextFault>
     ensures { told_reading result ≡ reading_result (read_local keys n rec s.now) }
 {
-    match read_text(rec, n, s) {
-        Ok(record) => Ok(record),
-        Err(fault) => or_name(fault, rec, s),
+    let first = read_text(rec, n, s);
+    match first {
+        Ok(_) => first,
+        Err(fault) => match fault {
+            TextFault::Unread => as_name(rec, s),
+            TextFault::Refused | TextFault::Again => first,
+        },
     }
 }

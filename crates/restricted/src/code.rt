@@ -10,15 +10,36 @@ ghost use Rattle.restricted.specs.Code.{code_char, coded, is_plain, numbered};
 use crate::convert::RestrictedFault;
 use chars::write::put;
 
-// Whether a character stands for itself. Letters, which most texts are made of, come first.
+// Whether a character stands for itself, range by range from the last one down, so that the letters, which most texts are made of, come
+// first.
+// A ladder, each step with its answer: with `matches!` of these ranges the coding of a text of letters cost two and a half times as much,
+// and with `else if` for the steps that of one with spaces and parentheses a sixth more.
 #[tactic(auto, using(std::proofs::lemmas::Bool::Decides::nat_tests, crate::proofs::Laws::Plain::plain_ranges))]
 pub(crate) fn is_plain(b: u8) -> bool
     ensures { result ≡ is_plain b }
 {
-    matches!(
-        b,
-        b'`'..=b'~' | b'^' | b'?'..=b'Z' | b'=' | b'-'..=b'9' | b'*'..=b'+' | b'$'..=b'\'' | b'!'
-    )
+    if b'`' <= b {
+        return b <= b'~';
+    }
+    if b'^' <= b {
+        return b == b'^';
+    }
+    if b'?' <= b {
+        return b <= b'Z';
+    }
+    if b':' <= b {
+        return b == b'=';
+    }
+    if b'-' <= b {
+        return true;
+    }
+    if b'*' <= b {
+        return b <= b'+';
+    }
+    if b'$' <= b {
+        return b <= b'\'';
+    }
+    b == b'!'
 }
 
 // How a character is coded: by a single byte, itself or the `_` of a space; by a letter between two `#`; or by its number.

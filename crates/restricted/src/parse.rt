@@ -65,7 +65,9 @@ fn behind_hash(s: &[u8], at: usize) -> Option<Group>
     Some(Group { char, len: 5 })
 }
 
-// What stands at a place; none where that does not parse.
+// What stands at a place; none where that does not parse. Inline: with a call for each character, whose answer goes through memory, a text
+// of letters cost twice as much to read back.
+#[inline(always)]
 fn group_at(s: &[u8], at: usize) -> Option<Group>
     requires { at < length s.now }
     ensures { Grouped (drop at s.now) result }

@@ -31,7 +31,7 @@ pub fn open<'a>(
 ) -> Result<Table<'a>, Malformed>
     requires to_path_len { length to_path.old ≡ rows_size }
     requires to_domain_len { length to_domain.old ≡ rows_size }
-    ensures { Opened text.now result }
+    ensures { Opened text.now to_path.entry to_domain.entry result }
 {
     read_table(text, to_path, to_domain)
 }

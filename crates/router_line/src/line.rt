@@ -58,14 +58,14 @@ fn put_done(dst: &mut [u8], n: usize) -> usize
 }
 
 // A record's text.
-fn put_record(dst: &mut [u8], rec: Record) -> usize
+fn put_record(dst: &mut [u8], rec: &Record) -> usize
     requires dst_len { length dst.old ≡ answer_room }
-    requires canonical { canonical_record rec ≡ true }
-    ensures { Wrote dst.old 0 (done_line (record_text keys (view rec))) result dst.new }
+    requires canonical { canonical_record rec.now ≡ true }
+    ensures { Wrote dst.old 0 (done_line (record_text keys (view rec.now))) result dst.new }
 {
     dst[0] = b'0';
     dst[1] = b'\t';
-    let end = write_text(dst, TEXT_AT, rec, 0);
+    let end = write_text(dst, TEXT_AT, *rec, 0);
     dst[end] = b'\n';
     end + 1
 }
@@ -75,7 +75,7 @@ fn map_line(table: &Table, s: &[u8], dst: &mut [u8]) -> usize
     requires { length dst.old ≡ answer_room }
     ensures { Wrote dst.old 0 (record_line (to_record (table_of table.now) s.now)) result dst.new }
 {
-    match map_address(&Inward::of(table), s) {
+    match &map_address(&Inward::of(table), s) {
         Ok(rec) => put_record(dst, rec),
         Err(refusal) => put_refusal(dst, refusal.number()),
     }
@@ -93,15 +93,15 @@ fn answer_address(read: &Result<Table, Malformed>, s: &[u8], dst: &mut [u8]) -> 
 }
 
 // The address of a record that was read.
-fn send_record(table: &Table, rec: Record, dst: &mut [u8]) -> usize
+fn send_record(table: &Table, rec: &Record, dst: &mut [u8]) -> usize
     requires { length dst.old ≡ answer_room }
-    ensures { Wrote dst.old 0 (read_line (table_of table.now) (read rec)) result dst.new }
+    ensures { Wrote dst.old 0 (read_line (table_of table.now) (read rec.now)) result dst.new }
 {
-    if !is_canonical(rec) {
+    if !is_canonical(*rec) {
         return put_refusal(dst, 4);
     }
     let end = TEXT_AT + ADDRESS_ROOM;
-    match write_address(&mut dst[TEXT_AT..end], &Outward::of(table), rec) {
+    match write_address(&mut dst[TEXT_AT..end], &Outward::of(table), *rec) {
         Some(n) => put_done(dst, n),
         None => put_refusal(dst, 5),
     }
@@ -112,7 +112,7 @@ fn read_line(table: &Table, s: &[u8], dst: &mut [u8]) -> usize
     requires { length dst.old ≡ answer_room }
     ensures { Wrote dst.old 0 (text_line (well_formed (table_of table.now)) s.now) result dst.new }
 {
-    match read_text(Record::empty(), 0, s) {
+    match &read_text(Record::empty(), 0, s) {
         Ok(rec) => send_record(table, rec, dst),
         Err(_) => put_refusal(dst, 4),
     }

@@ -3,7 +3,7 @@
 ghost use Rattle.std.specs.Prelude.{◌≡◌, ◌*◌, ◌≤◌, IfOk, length};
 ghost use Rattle.rowlist.specs.Entries.{entries_of, entry_size};
 ghost use Rattle.table.specs.Rows.{rows_size};
-ghost use Rattle.table_load.specs.Tables.{table_answer};
+ghost use Rattle.table_load.specs.Tables.{InLists, table_answer};
 ghost use Rattle.rowlist_load.specs.Listed.{listed_from};
 
 use crate::load::load_entries;
@@ -23,6 +23,7 @@ pub fn read_list<'a>(
     requires to_domain_len { length to_domain.old ≡ rows_size }
     ensures answers { table_answer result ≡ listed_from text.now (entries_of numbers.now n) }
     ensures text { IfOk result (λ t. t.text.now ≡ text.now) }
+    ensures lists { IfOk result (λ t. InLists to_path.entry to_domain.entry t) }
 {
     let loaded = load_entries(text, numbers, n, to_path, to_domain)?;
     Ok(Table {

@@ -1,6 +1,7 @@
--- The table that a loaded table's struct stands for, and what reading one comes to.
+-- The table that a loaded table's struct stands for, what reading one comes to, and the lists that it keeps.
 -- Assumes nothing.
-use Rattle.std.specs.Prelude.{Result, Ok, Err}
+use Rattle.std.specs.Prelude.{◌≡◌, List, ℕ, Result, Ok, Err}
+use Rattle.std.specs.Borrow.{MutBor}
 use Rattle.table.specs.Table.{Table}
 use Rattle.table.specs.Lines.{TableOutcome, malformed, well_formed}
 use Rattle.table.specs.Rows.{table_at}
@@ -15,3 +16,8 @@ table_of t = table_at t.text.now t.to_path.now t.to_domain.now t.loaded
 abbrev pub table_answer : Result tables.Table.Table Malformed → TableOutcome
 table_answer (Ok t) = well_formed (table_of t)
 table_answer (Err e) = malformed e.line
+
+-- Its lists are the two that were lent for its rows: the same places, so that what it says of its lists is said of those.
+pub record InLists (ds rs : MutBor (List ℕ)) (t : tables.Table.Table) : Type 0 where
+  pub to_path : t.to_path.ref_ptr ≡ ds.ref_ptr
+  pub to_domain : t.to_domain.ref_ptr ≡ rs.ref_ptr

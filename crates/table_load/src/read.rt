@@ -3,7 +3,7 @@
 ghost use Rattle.std.specs.Prelude.{◌≡◌, IfOk, length};
 ghost use Rattle.table.specs.Lines.{loaded_from};
 ghost use Rattle.table.specs.Rows.{rows_size};
-ghost use Rattle.table_load.specs.Tables.{table_answer};
+ghost use Rattle.table_load.specs.Tables.{InLists, table_answer};
 
 use crate::load::load;
 use crate::tables::Table;
@@ -19,6 +19,7 @@ pub fn read_table<'a>(
     requires to_domain_len { length to_domain.old ≡ rows_size }
     ensures answers { table_answer result ≡ loaded_from text.now }
     ensures text { IfOk result (λ t. t.text.now ≡ text.now) }
+    ensures lists { IfOk result (λ t. InLists to_path.entry to_domain.entry t) }
 {
     let loaded = load(text, to_path, to_domain)?;
     Ok(Table {

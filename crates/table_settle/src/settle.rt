@@ -9,7 +9,7 @@ ghost use Rattle.oraddr.specs.View.{empty_record};
 ghost use Rattle.table.specs.Rows.{RowInside, fields_at, row_at, rows_at};
 ghost use Rattle.table.specs.declared.rows.Key.TheVariants.{Domain};
 ghost use Rattle.table_order.specs.Place.{Sorted};
-ghost use Rattle.table_settle.specs.Settle.{add_level, add_levels, begun, left_parts, nexts_from, settled_as, settled_from, settlement_answer, settling};
+ghost use Rattle.table_settle.specs.Settle.{add_level, add_levels, begun, left_parts, nexts_from, settled_from, settlement_answer, settling};
 ghost use Rattle.oraddr.specs.Bounds.{level_count};
 
 use mailaddr::domain::{count_parts, part_start};
@@ -157,19 +157,6 @@ fn add_parts(path: Addition, domain: &[u8], start: usize, k: usize) -> Addition
     done
 }
 
-// The settlement after all additions.
-fn settled_as(done: Addition, n: usize) -> Result<Settlement, Unsettled>
-    ensures { settlement_answer result ≡ settled_as n (told done) }
-{
-    match done.answer {
-        Added::Done => Ok(Settlement {
-            levels: n,
-            record: done.record,
-        }),
-        Added::Refused => Err(Unsettled::PastBound),
-    }
-}
-
 // The levels of a row's path and then the parts of what a domain has in front of the row's domain.
 pub fn settle_row(text: &[u8], row: Row, domain: &[u8]) -> Result<Settlement, Unsettled>
     requires row_inside { RowInside text.now row }
@@ -188,7 +175,15 @@ pub fn settle_row(text: &[u8], row: Row, domain: &[u8]) -> Result<Settlement, Un
         return Err(Unsettled::PastUnits);
     }
     let path = add_laid(text, at, end, &nexts);
-    settled_as(add_parts(path, domain, start, k), k + n)
+    let done = add_parts(path, domain, start, k);
+    if let Added::Refused = done.answer {
+        return Err(Unsettled::PastBound);
+    }
+    let settled = Settlement {
+        levels: k + n,
+        record: done.record,
+    };
+    Ok(settled)
 }
 
 // The levels that a domain settles, by the first n rows.

@@ -4,12 +4,14 @@ use Rattle.std.proofs.Common.{Some, None}
 use Rattle.std.proofs.lemmas.Option.{cond_some, none-some}
 use mathlib.Core.Path.{◌≡◌, sym}
 use Prim.Native.Nat.{ℕ, ◌+◌, ◌-◌, ◌*◌, ◌/◌, ◌%◌, ◌≤◌, ◌<◌}
-use mathlib.Core.Bool.{true, false, ◌&&◌, and-false}
+use mathlib.Core.Bool.{true, false, ◌&&◌, and-false, cond}
 use mathlib.Core.List.{List, [], ◌∷◌}
+use native.Mathlib.Nat.{add-zero}
 use native.Mathlib.Omega.{arith}
 use borrow.Author.Tests.{eqb-true, le-leb, leb-false, leb-true, lt-leb}
 use lib.Dec.{eqb, leb}
-use lib.ListN.{get_or, get_or-eq_default, length}
+use lib.ListN.{drop, get_or, get_or-eq_default, length}
+use lib.Seq.{get_or-drop}
 use Rattle.chars.specs.Class.{between, highest_code, is_char, is_digit}
 use Rattle.chars.specs.Digits.{digit_value, digits_number, is_number_group, no_digits, spelt_character, three_digits}
 use Rattle.chars.proofs.Laws.Class.{at_char}
@@ -46,6 +48,11 @@ digits_back b s h =
     eqb-true (three_digits ((48 + b / 100) ∷ (48 + b / 10 % 10) ∷ (48 + b % 10) ∷ s)) b
     (at_char (λ b. eqb (three_digits ((48 + b / 100) ∷ (48 + b / 10 % 10) ∷ (48 + b % 10) ∷ [])) b) (λ b. true) tt b h)
 
+-- by places of a text
+pub digits_there : (s : List ℕ) (i : ℕ) → three_digits (drop i s) ≡ cond (is_digit (get_or s i 0) && is_digit (get_or s (i + 1) 0) && is_digit (get_or s (i + 2) 0)) ((get_or s i 0 - 48) * 100 + (get_or s (i + 1) 0 - 48) * 10 + (get_or s (i + 2) 0 - 48)) no_digits
+unfolding three_digits digits_number
+digits_there s i = rw (get_or-drop i s 0 0, get_or-drop i s 1 0, get_or-drop i s 2 0, add-zero)
+
 -- ---- the character that three digits spell
 
 -- a digit's value, and none of another byte
@@ -57,20 +64,28 @@ pub value_none : (b : ℕ) → None ≡ digit_value b → is_digit b ≡ false
 unfolding digit_value
 value_none b h = by_test (is_digit b) (λ e. absurd (none-some (b - 48) (rw e at h))) (λ e. e)
 
--- none where one of the three is no digit, or where the text is shorter than they are
+-- no number where one of the three is no digit, or where the text is shorter than they are; and no character either
+pub digits-none : (s : List ℕ) → (is_digit (get_or s 0 0) && is_digit (get_or s 1 0) && is_digit (get_or s 2 0)) ≡ false → three_digits s ≡ no_digits
+unfolding three_digits
+digits-none s e = rw e
+
+pub digits-short : (s : List ℕ) → length s < 3 → three_digits s ≡ no_digits
+unfolding is_digit between
+digits-short s h =
+    let e : get_or s 2 0 ≡ 0 = get_or-eq_default s 0 (omega arith) in
+    digits-none s (rw (e, and-false))
+
 pub spelt-none : (s : List ℕ) → (is_digit (get_or s 0 0) && is_digit (get_or s 1 0) && is_digit (get_or s 2 0)) ≡ false → spelt_character s ≡ None
-unfolding spelt_character three_digits
-spelt-none s e = rw e
+unfolding spelt_character
+spelt-none s e = rw (digits-none s e)
 
 pub spelt-short : (s : List ℕ) → length s < 3 → spelt_character s ≡ None
-unfolding is_digit between
-spelt-short s h =
-    let e : get_or s 2 0 ≡ 0 = get_or-eq_default s 0 (omega arith) in
-    spelt-none s (rw (e, and-false))
+unfolding spelt_character
+spelt-short s h = rw (digits-short s h)
 
 -- three digits, by their values
 module _ (s : List ℕ) (a b c : ℕ) (u : Some a ≡ digit_value (get_or s 0 0)) (v : Some b ≡ digit_value (get_or s 1 0)) (w : Some c ≡ digit_value (get_or s 2 0)) where
-  spelt_three : three_digits s ≡ a * 100 + b * 10 + c
+  pub spelt_three : three_digits s ≡ a * 100 + b * 10 + c
   unfolding three_digits digits_number
   spelt_three =
       let x = value_some (get_or s 0 0) a u in

@@ -100,9 +100,13 @@ wrote_over {o} {m} {n} {s} {t} {p} {i} u v h g =
 pub wrote-place : {o n t : List ℕ} {i j : ℕ} → Wrote o i t j n → i + length t ≤ length o → n ≡ take i o ++ t ++ drop (i + length t) o
 wrote-place {o} {n} {t} {i} w h = w.holds ∙ sets-eq t o i h
 
-pub wrote-front : {o n t : List ℕ} {j : ℕ} → Wrote o 0 t j n → length t ≤ length o → n ≡ front t o
+-- stores from the front on of a text that there is room for
+pub fits_front : (o t : List ℕ) → length t ≤ length o → sets o 0 t ≡ front t o
 unfolding front
-wrote-front {o} {n} {t} w h = wrote-place w (omega arith) ∙ rw zero-add
+fits_front o t h = sets-eq t o 0 (omega arith) ∙ rw zero-add
+
+pub wrote-front : {o n t : List ℕ} {j : ℕ} → Wrote o 0 t j n → length t ≤ length o → n ≡ front t o
+wrote-front {o} {n} {t} w h = w.holds ∙ fits_front o t h
 
 -- what stands in front of the next text: what stood in front of this one, and this one
 pub wrote-take : {o n t : List ℕ} {i j : ℕ} → Wrote o i t j n → i + length t ≤ length o → take j n ≡ take i o ++ t

@@ -1,16 +1,18 @@
--- Days of a month, and numbers that no date has.
+-- Days of a month, numbers that no date has, and an offset within a day.
 -- Assumes nothing.
-use mathlib.Core.Path.{◌≡◌, sym}
+use mathlib.Core.Path.{◌≡◌, refl, sym}
 use mathlib.Core.Bool.{true, false, ◌&&◌, and-false}
 use Prim.Native.Nat.{ℕ, zero, suc, ◌%◌, ◌≤◌, ◌<◌, zero-le}
 use native.Mathlib.Omega.{arith}
 use lib.Dec.{eqb, leb, ltb}
+use lib.IntN.{ℤ, pos, negsuc, nat_abs}
 use lib.ListN.{get_or, get_or-eq_default}
-use borrow.Author.Tests.{leb-true, lt-leb, ltb-false, ltb-true, ne_eqb}
-use Rattle.chars.proofs.Laws.Lists.{by_test}
+use lib.Signed.{le_z, lt_z}
+use borrow.Author.Tests.{le-leb, leb-true, lt-leb, ltb-false, ltb-true, ne_eqb}
+use Rattle.chars.proofs.Laws.Lists.{by_test, true_not_false}
 use Rattle.chars.proofs.Laws.Class.{on_range}
 use Rattle.std.specs.Prelude.{None, Some}
-use Rattle.date_read.specs.Date.{days_in, is_date, is_day, is_second, is_time, last_month, month_days}
+use Rattle.date_read.specs.Date.{days_in, is_date, is_day, is_second, is_time, last_month, month_days, most_offset}
 use Rattle.date_read.specs.Read.{kept, no_number, no_offset}
 use Rattle.date_read.specs.declared.date.DateTime.{DateTime}
 
@@ -92,3 +94,12 @@ module _ (d : DateTime) where
 pub plain_month : (y m : ℕ) → (m ≡ 2 → ⊥) → get_or month_days m 0 ≡ days_in y m
 unfolding days_in
 plain_month y m h = rw (ne_eqb m 2 h)
+
+-- an offset more than 1,439 minutes to the west is too far, and of any other the bound to the east decides
+pub far_west : (z : ℤ) → lt_z z (negsuc 1438) ≡ true → false ≡ leb (nat_abs z) most_offset
+far_west (pos n) h = true_not_false true refl (sym h)
+far_west (negsuc n) h = sym (lt-leb (suc n) 1439 (omega (arith, ltb-true 1438 n h)))
+
+pub not_far_west : (z : ℤ) → lt_z z (negsuc 1438) ≡ false → le_z z (pos 1439) ≡ leb (nat_abs z) most_offset
+not_far_west (pos n) h = refl
+not_far_west (negsuc n) h = sym (le-leb (suc n) 1439 (omega (arith, ltb-false 1438 n h)))

@@ -27,6 +27,15 @@ numbered (n ∷ ns) k s =
     rw e
     (ap (λ (i : ℕ). unwrap_or (option_map (λ i. suc i) (position_from (λ n. same_text n s) i ns)) 0) (add-one k) ∙ numbered ns (suc k) s))
 
+-- a text that is the first name has that name's number, and any other the number that the names behind it give
+pub named_first : (k : ℕ) (n : List ℕ) (ns : List (List ℕ)) (s : List ℕ) → same_text n s ≡ true → k ≡ number_in k (n ∷ ns) s
+unfolding number_in
+named_first k n ns s e = rw e
+
+pub named_later : (k r : ℕ) (n : List ℕ) (ns : List (List ℕ)) (s : List ℕ) → same_text n s ≡ false → r ≡ number_in (suc k) ns s → r ≡ number_in k (n ∷ ns) s
+unfolding number_in
+named_later k r n ns s e h = rw e h
+
 -- the text is one of the names
 pub named : (names : List (List ℕ)) (k : ℕ) (s : List ℕ) → list_any (λ n. same_text n s) names ≡ true → eqb (number_in (suc k) names s) 0 ≡ false
 unfolding number_in

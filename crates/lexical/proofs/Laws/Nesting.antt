@@ -1,17 +1,17 @@
 -- Laws of how deep comments nest: a byte of a text at a time, by places.
 -- Assumes nothing.
-use mathlib.Core.Path.{◌≡◌, ◌∙◌}
+use mathlib.Core.Path.{◌≡◌, refl, sym, ◌∙◌}
 use mathlib.Core.Bool.{Bool, true, false}
 use mathlib.Core.List.{List, [], ◌∷◌}
 use Prim.Native.Nat.{ℕ, zero, suc, max, ◌+◌, ◌-◌, ◌≤◌, ◌<◌}
 use native.Mathlib.Omega.{arith}
 use native.Mathlib.Numerals.{add-one}
 use borrow.Author.Tests.{le-ltb, lt-ltb, ltb-false, ltb-true}
-use lib.Dec.{ltb}
+use lib.Dec.{eqb, ltb}
 use lib.ListN.{length, drop, get_or, drop_of_length-le}
-use lib.Seq.{drop-cons}
+use lib.Seq.{drop-cons, drop-drop}
 use Rattle.chars.proofs.Laws.Lists.{by_test}
-use Rattle.lexical.specs.Nesting.{deepest, nest, nest_behind, nest_comment, nest_of}
+use Rattle.lexical.specs.Nesting.{deepest, nest, nest_behind, nest_comment, nest_of, nest_outside, nest_quoted}
 use Rattle.lexical.specs.declared.nesting.Nest.{Nest}
 
 -- in a comment, as code says it
@@ -19,6 +19,38 @@ pub in_comment : (b d : ℕ) → 0 < d → nest_of b false d ≡ nest_comment b 
 unfolding nest_of
 in_comment b zero h = absurd (omega arith)
 in_comment b (suc d) h = let e : suc d - 1 ≡ d = omega arith in rw e
+
+-- a byte takes at most one more
+skip_quoted : (b d : ℕ) → (nest_quoted b d).skip ≤ 1
+unfolding nest_quoted
+skip_quoted b d = by_test (eqb b 92) (λ e. rw e (omega arith)) (λ e. rw e (omega arith))
+
+skip_outside : (b : ℕ) → (nest_outside b).skip ≤ 1
+unfolding nest_outside
+skip_outside b = by_test (eqb b 40) (λ e. rw e (omega arith)) (λ e. rw e (omega arith))
+
+skip_comment : (b d : ℕ) → (nest_comment b d).skip ≤ 1
+unfolding nest_comment
+skip_comment b d =
+    by_test (eqb b 92)
+    (λ e. rw e (omega arith))
+    (λ e. by_test (eqb b 40) (λ f. rw (e, f) (omega arith)) (λ f. by_test (eqb b 41) (λ g. rw (e, f, g) (omega arith)) (λ g. rw (e, f, g) (omega arith))))
+
+skip_one : (b : ℕ) (q : Bool) (d : ℕ) → (nest_of b q d).skip ≤ 1
+unfolding nest_of
+skip_one b true d = skip_quoted b d
+skip_one b false zero = skip_outside b
+skip_one b false (suc d) = skip_comment b d
+
+pub skips : (n : Nest) (b : ℕ) (q : Bool) (d : ℕ) → n ≡ nest_of b q d → n.skip ≤ 1
+skips n b q d e = rw e (skip_one b q d)
+
+-- bytes that are passed are dropped
+deepest_skip : (k : ℕ) (q : Bool) (d : ℕ) (s : List ℕ) → deepest k q d s ≡ deepest 0 q d (drop k s)
+unfolding deepest
+deepest_skip zero q d s = refl
+deepest_skip (suc k) q d [] = refl
+deepest_skip (suc k) q d (x ∷ s) = deepest_skip k q d s
 
 -- as many are open as were
 pub deepest-least : (k : ℕ) (q : Bool) (d : ℕ) (s : List ℕ) → d ≤ deepest k q d s
@@ -40,6 +72,15 @@ turn : (x : ℕ) (t : List ℕ) (k : ℕ) (q : Bool) (d : ℕ) → d ≤ 8 → (
 unfolding deepest nest_behind
 turn x t zero q d h m e = rw e (past-max d (deepest (nest_of x q d).skip (nest_of x q d).quote (nest_of x q d).depth t) h)
 turn x t (suc k) q d h m e = let p : suc k - 1 ≡ k = omega arith in rw (e, lt-ltb 0 (suc k) (omega arith), p)
+
+-- a turn over a byte and what it takes with it, at once: the bound is passed from here on if it is passed from behind them on
+module _ (s : List ℕ) (i : ℕ) (q : Bool) (d : ℕ) (h : d ≤ 8) where
+  pub nest_jump : i < length s → (n : Nest) → n ≡ nest_of (get_or s i 0) q d
+      → ltb 8 (deepest 0 q d (drop i s)) ≡ ltb 8 (deepest 0 n.quote n.depth (drop (i + 1 + n.skip) s))
+  unfolding deepest
+  nest_jump l n e =
+      rw (drop-cons s i 0 l, sym e, deepest_skip n.skip n.quote n.depth (drop (suc i) s), drop-drop n.skip (suc i) s, sym (add-one i))
+      (past-max d (deepest 0 n.quote n.depth (drop (i + 1 + n.skip) s)) h)
 
 -- the turns of a loop over a text
 module _ (s : List ℕ) (i : ℕ) (n : Nest) (h : n.depth ≤ 8) where

@@ -69,6 +69,15 @@ meaning-within k e s = within (length s) (quoted k e s) (fits k e s)
     within n None h = omega arith
     within n (Some q) h = omega arith
 
+-- where it closes, its text is shorter by its closing quote at least
+pub meaning-less : (k : ℕ) (e : Bool) (s : List ℕ) → 0 < size_in (quoted k e s) → length (meaning_in (quoted k e s)) < size_in (quoted k e s)
+unfolding size_in meaning_in
+meaning-less k e s = within (length s) (quoted k e s) (fits k e s)
+  where
+    within : (n : ℕ) (o : Option Quoted) → Fits n o → 0 < size_in o → length (meaning_in o) < size_in o
+    within n None h l = absurd (omega arith)
+    within n (Some q) h l = h.1
+
 -- one byte less of it
 passing_left : (n : ℕ) (o : Option Quoted) → Fits n o → 0 < size_in (passing o) → 0 < size_in o
 unfolding passing size_in

@@ -8,8 +8,8 @@ use mathlib.Core.Bool.{Bool, true, false, not, cond, ◌&&◌}
 use mathlib.Core.List.{List, [], ◌∷◌, ◌++◌, map, reverse, reverse-append, reverse-cons, reverse-reverse}
 use Rattle.std.specs.List.{list_all, onto_first, prefix_len, slice_split}
 use lib.Dec.{eqb}
-use lib.ListN.{length, take, drop, length-append, length-reverse}
-use lib.Seq.{append_snoc, drop_at, length-take-le, take-add, take_all, take_at, take-take}
+use lib.ListN.{length, take, drop, get_or, length-append, length-reverse}
+use lib.Seq.{append_snoc, drop_at, length-take-le, take-add, take_all, take_at, take-suc, take-take}
 use Rattle.chars.specs.Lists.{all, non_empty}
 use Rattle.chars.specs.Class.{between, is_atom_char, is_letter}
 use Rattle.chars.specs.Case.{fold_text}
@@ -116,6 +116,29 @@ back_cut t h =
       all-reverse (λ x. not (eqb x 46)) part ∙ run-clear 46 u,
       length-reverse part ∙ length-take-le k u (run_le 46 u),
     )
+
+-- the run from the right of what stands before a place: none behind a dot, one more behind any other byte, none at the front
+back_step : (s : List ℕ) (i : ℕ) → 0 < i → i ≤ length s → reverse (take i s) ≡ get_or s (i - 1) 0 ∷ reverse (take (i - 1) s)
+back_step s i h k =
+    let e : i ≡ suc (i - 1) = omega arith in
+    ap (λ (m : ℕ). reverse (take m s)) e
+    ∙ ap reverse (take-suc s (i - 1) 0 (omega arith))
+    ∙ reverse-append (take (i - 1) s) (get_or s (i - 1) 0 ∷ [])
+
+pub back_dot : (s : List ℕ) (i : ℕ) → 0 < i → i ≤ length s → eqb (get_or s (i - 1) 0) 46 ≡ true → run 46 (reverse (take i s)) ≡ 0
+unfolding run
+back_dot s i h k e = ap (run 46) (back_step s i h k) ∙ rw e
+
+pub back_byte : (s : List ℕ) (i : ℕ) → 0 < i → i ≤ length s → eqb (get_or s (i - 1) 0) 46 ≡ false
+    → run 46 (reverse (take i s)) ≡ suc (run 46 (reverse (take (i - 1) s)))
+unfolding run
+back_byte s i h k e = ap (run 46) (back_step s i h k) ∙ rw e
+
+pub back_end : (s : List ℕ) (i : ℕ) → i ≤ 0 → run 46 (reverse (take i s)) ≡ 0
+unfolding run
+back_end s i h =
+    let e : i ≡ 0 = omega arith in
+    rw e
 
 -- ---- the part that ends at a place, for loops from the right: r is where it starts
 

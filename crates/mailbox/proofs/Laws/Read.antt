@@ -4,7 +4,9 @@ use mathlib.Core.Path.{◌≡◌, refl, sym, ap, ◌∙◌}
 use mathlib.Core.Bool.{true, false, ◌||◌, cond}
 use mathlib.Core.List.{List, [], ◌∷◌}
 use mathlib.Core.Option.{Option, none, some}
-use Rattle.std.proofs.Common.{Option as Opt, None, Some}
+use Rattle.std.proofs.Common.{Option as Opt, None, Some, Result, Ok, Err}
+use Rattle.std.specs.Result.{result_ok}
+use Rattle.std.proofs.lemmas.Option.{none-some}
 use Prim.Native.Nat.{ℕ}
 use borrow.Author.Tests.{eqb-true}
 use native.Mathlib.Omega.{arith}
@@ -57,11 +59,17 @@ end_by start size x s (Special c) a e = refl
 end_by start size x s End a e = refl
 end_by start size x s Bad a e = refl
 
+-- an answer that is an address, from what is left of it without the token of a refusal
+address-is : (y : Result SpecRead Lexeme) (a : SpecRead) → Some a ≡ result_ok y → y ≡ Ok a
+address-is (Ok b) a e = cc
+address-is (Err t) a e = absurd (none-some a (sym e))
+
 -- the address that was read, by what stands behind it
-pub mailbox-reads : (s new : List ℕ) (a : SpecRead) (start size : ℕ) (o : Option AddrSpec) (r : Opt MailboxRead) → ReadsSpec s (spec_text o) (Some a) new
-    → r ≡ whole_read a start size → ReadsMailbox s (bare_of (whole start size o)) r new
+pub mailbox-reads : (s new : List ℕ) (y : Result SpecRead Lexeme) (a : SpecRead) (start size : ℕ) (o : Option AddrSpec) (r : Opt MailboxRead)
+    → ReadsSpec s (spec_text o) y new → Some a ≡ result_ok y → r ≡ whole_read a start size → ReadsMailbox s (bare_of (whole start size o)) r new
 unfolding told_mailbox told_spec tokens_of
-mailbox-reads s new a start size o r h e =
+mailbox-reads s new y a start size o r g f e =
+    let h : ReadsSpec s (spec_text o) (Ok a) new = rw (address-is y a f) at g in
     let x : SpecText = record { local = take a.local new; is_quoted = a.quoted; domain = drop a.local (take a.size new); rest = tokens_of s a.next } in
     let t = whole-text start size o ∙ ap (whole_text start size) (sym h.told) ∙ end_by start size x s a.next.kind a.next.start a.next.end in
     by_test (is_end_kind a.next.kind)
@@ -71,10 +79,11 @@ mailbox-reads s new a start size o r h e =
     rw q (record { told = sym (t ∙ rw k); sizes = tt }))
 
 -- none was read
-pub mailbox-unread : (s new : List ℕ) (start size : ℕ) (o : Option AddrSpec) → told_spec s None new ≡ spec_text o
-    → ReadsMailbox s (bare_of (whole start size o)) None new
+pub mailbox-unread : (s new : List ℕ) (y : Result SpecRead Lexeme) (start size : ℕ) (o : Option AddrSpec) → told_spec s y new ≡ spec_text o
+    → None ≡ result_ok y → ReadsMailbox s (bare_of (whole start size o)) None new
 unfolding told_mailbox told_spec
-mailbox-unread s new start size o h = record { told = sym (whole-text start size o ∙ ap (whole_text start size) (sym h)); sizes = tt }
+mailbox-unread s new (Ok a) start size o h f = absurd (none-some a f)
+mailbox-unread s new (Err t) start size o h f = record { told = sym (whole-text start size o ∙ ap (whole_text start size) (sym h)); sizes = tt }
 
 -- ---- the phrase
 

@@ -4,14 +4,14 @@ use mathlib.Core.Path.{◌≡◌, refl, sym, ap, ◌∙◌}
 use mathlib.Core.Bool.{Bool, true, false}
 use mathlib.Core.List.{List, [], ◌++◌}
 use mathlib.Core.Option.{Option, none, some}
-use Rattle.std.proofs.Common.{Some, None}
+use Rattle.std.proofs.Common.{Ok, Err}
 use Prim.Native.Nat.{ℕ, ◌≤◌}
 use borrow.Author.Tests.{eq-eqb}
 use native.Mathlib.Omega.{arith}
 use lib.Dec.{eqb}
 use lib.ListN.{length, take, drop, length-append, length-take}
 use lib.Seq.{drop-append_seam, take-append_seam, take-take}
-use Rattle.lexical.specs.Answers.{tokens_by, tokens_of}
+use Rattle.lexical.specs.Answers.{Stands, tokens_by, tokens_of}
 use Rattle.lexical.specs.Tokens.{Token, Word, tokens_at}
 use Rattle.mailbox_address.specs.Answers.{DottedText, ReadsSpec, SpecText, after, domain_text, is_special_kind, spec_text, told_dotted, told_route, told_spec}
 use Rattle.mailbox_address.specs.Grammar.{AddrSpec, Dotted, addr_spec, addr_spec_in, allowed, any_quoted, at_domain, behind, closed_by, domain, dotted, going_on, local_part, meaning_of, optional_route, route_addr, route_in, with_domain, with_local}
@@ -85,10 +85,10 @@ domain-parted x q b (some d) = rw (drop-append_seam x (meaning_of d.words))
 
 -- ---- what the code read
 
--- an addr-spec that does not stand there
-pub unread : {s new : List ℕ} {o : Option SpecText} → o ≡ none → ReadsSpec s o None new
+-- an addr-spec that does not stand there, and the token where reading stopped
+pub unread : {s new : List ℕ} {t : Lexeme} {o : Option SpecText} → o ≡ none → Stands s t → ReadsSpec s o (Err t) new
 unfolding told_spec
-unread h = record { told = sym h; stands = tt; low = tt; parted = tt }
+unread h w = record { told = sym h; stands = w; low = tt; parted = tt }
 
 -- the text of words that were read
 unfoldable text_in : Option DottedText → List ℕ
@@ -106,11 +106,12 @@ unfolding after text_in
 text_of x none t h = absurd cc
 text_of x (some d) t h = (meaning_of d.words, ap text_in h)
 
-pub spec_none : (s new : List ℕ) (ts : List Token) → told_dotted s None new ≡ after [] false (dotted (allowed true) ts) → spec_text (addr_spec ts) ≡ none
+pub spec_none : (s new : List ℕ) (t : Lexeme) (ts : List Token) → told_dotted s (Err t) new ≡ after [] false (dotted (allowed true) ts)
+    → spec_text (addr_spec ts) ≡ none
 unfolding told_dotted
-spec_none s new ts h = addr_spec_is ts ∙ ap from_local (sym h)
+spec_none s new t ts h = addr_spec_is ts ∙ ap from_local (sym h)
 
-module _ (s new : List ℕ) (l : DottedRead) (ts : List Token) (h : told_dotted s (Some l) new ≡ after [] false (dotted (allowed true) ts)) where
+module _ (s new : List ℕ) (l : DottedRead) (ts : List Token) (h : told_dotted s (Ok l) new ≡ after [] false (dotted (allowed true) ts)) where
   pub spec_other : is_special_kind l.next.kind 64 ≡ false → spec_text (addr_spec ts) ≡ none
   unfolding told_dotted
   spec_other g = addr_spec_is ts ∙ ap from_local (sym h) ∙ rw (behind_other s l.next 64 g)
@@ -119,17 +120,18 @@ module _ (s new : List ℕ) (l : DottedRead) (ts : List Token) (h : told_dotted 
   unfolding told_dotted
   spec_at g = addr_spec_is ts ∙ ap from_local (sym h) ∙ rw (behind_it s l.next 64 g)
 
-pub domain-unread : (s new x : List ℕ) (q : Bool) (ts : List Token) → told_dotted s None new ≡ after x false (dotted (allowed false) ts) → domain_text x q (domain ts) ≡ none
+pub domain-unread : (s new x : List ℕ) (q : Bool) (t : Lexeme) (ts : List Token) → told_dotted s (Err t) new ≡ after x false (dotted (allowed false) ts)
+    → domain_text x q (domain ts) ≡ none
 unfolding domain told_dotted
-domain-unread s new x q ts h = domain-parted x q false (dotted (allowed false) ts) ∙ ap (parted x q) (sym h)
+domain-unread s new x q t ts h = domain-parted x q false (dotted (allowed false) ts) ∙ ap (parted x q) (sym h)
 
-module _ (s new x : List ℕ) (q : Bool) (d : DottedRead) (ts : List Token) (h : told_dotted s (Some d) new ≡ after x false (dotted (allowed false) ts)) where
+module _ (s new x : List ℕ) (q : Bool) (d : DottedRead) (ts : List Token) (h : told_dotted s (Ok d) new ≡ after x false (dotted (allowed false) ts)) where
   read-text : (m : List ℕ) × (take d.size new ≡ x ++ m)
   unfolding told_dotted
   read-text = text_of x (dotted (allowed false) ts) (record { text = take d.size new; is_quoted = d.quoted; rest = tokens_of s d.next }) h
 
   pub domain-read : (n : ℕ) → length x ≡ n
-      → (told_spec s (Some (record { local = n; size = d.size; quoted = q; next = d.next })) new ≡ domain_text x q (domain ts)) × (n ≤ d.size)
+      → (told_spec s (Ok (record { local = n; size = d.size; quoted = q; next = d.next })) new ≡ domain_text x q (domain ts)) × (n ≤ d.size)
   unfolding domain told_spec told_dotted
   domain-read n e =
       let p = front_is x read-text.0 new d.size read-text.1 in (
@@ -157,17 +159,17 @@ unfolding spec_text closed_by
 closed-text none = refl
 closed-text (some a) = going_text_lem a (behind 62 a.rest)
 
-pub close_none : (s new : List ℕ) (o : Option AddrSpec) → told_spec s None new ≡ spec_text o → spec_text (closed_by o) ≡ none
+pub close_none : (s new : List ℕ) (t : Lexeme) (o : Option AddrSpec) → told_spec s (Err t) new ≡ spec_text o → spec_text (closed_by o) ≡ none
 unfolding told_spec
-close_none s new o h = closed-text o ∙ ap close_text (sym h)
+close_none s new t o h = closed-text o ∙ ap close_text (sym h)
 
-module _ (s new : List ℕ) (a : SpecRead) (o : Option AddrSpec) (h : told_spec s (Some a) new ≡ spec_text o) where
+module _ (s new : List ℕ) (a : SpecRead) (o : Option AddrSpec) (h : told_spec s (Ok a) new ≡ spec_text o) where
   pub close_other : is_special_kind a.next.kind 62 ≡ false → spec_text (closed_by o) ≡ none
   unfolding told_spec
   close_other g = closed-text o ∙ ap close_text (sym h) ∙ rw (behind_other s a.next 62 g)
 
   pub close_it : is_special_kind a.next.kind 62 ≡ true → (u : Lexeme) → tokens_at s a.next.end ≡ tokens_of s u
-      → told_spec s (Some (record { local = a.local; size = a.size; quoted = a.quoted; next = u })) new ≡ spec_text (closed_by o)
+      → told_spec s (Ok (record { local = a.local; size = a.size; quoted = a.quoted; next = u })) new ≡ spec_text (closed_by o)
   unfolding told_spec
   close_it g u l = sym (closed-text o ∙ ap close_text (sym h) ∙ rw (behind_it s a.next 62 g, l))
 
@@ -181,11 +183,11 @@ module _ (s : List ℕ) (t u : Lexeme) (h : is_special_kind t.kind 60 ≡ true) 
   unfolding route_addr route_in
   route_addr_is = rw (behind_it s t 60 h, l)
 
-  pub route-unread : told_route s None ≡ optional_route (tokens_of s u) → spec_text (route_addr (tokens_of s t)) ≡ none
+  pub route-unread : (r : Lexeme) → told_route s (Err r) ≡ optional_route (tokens_of s u) → spec_text (route_addr (tokens_of s t)) ≡ none
   unfolding told_route addr_spec_in closed_by spec_text
-  route-unread e = rw (route_addr_is, sym e)
+  route-unread r e = rw (route_addr_is, sym e)
 
-  pub route-read : (r : Lexeme) → told_route s (Some r) ≡ optional_route (tokens_of s u)
+  pub route-read : (r : Lexeme) → told_route s (Ok r) ≡ optional_route (tokens_of s u)
       → spec_text (route_addr (tokens_of s t)) ≡ spec_text (closed_by (addr_spec (tokens_of s r)))
   unfolding told_route addr_spec_in
   route-read r e = rw (route_addr_is, sym e)

@@ -1,18 +1,30 @@
--- Laws of a record's levels in a buffer: the levels by their places, one more written behind the others, how many they are, and levels put in front of a domain.
+-- Laws of a record's levels in a buffer: the levels by their places, one more written behind the others, how many they are, that each is short,
+-- and levels put in front of a domain.
 -- Assumes nothing.
 use mathlib.Core.Path.{◌≡◌, refl, sym, ap, ap₂, ◌∙◌}
-use mathlib.Core.List.{List, [], ◌∷◌, ◌++◌, append_assoc, append-nil}
+use mathlib.Core.Bool.{Bool, true}
+use mathlib.Core.List.{List, [], ◌∷◌, ◌++◌, append_assoc, append-nil, map}
 use Prim.Native.Nat.{ℕ, zero, suc, ◌+◌, ◌-◌, ◌≤◌, ◌<◌}
 use native.Mathlib.Nat.{add-zero, le_of_suc-le-suc, not-suc-le-zero, zero-add}
 use native.Mathlib.Numerals.{add-one}
 use native.Mathlib.Omega.{arith}
 use borrow.Author.Count.{below_more}
-use lib.ListN.{length, get_or, take, drop, set, length-append, length-replicate, length-take}
+use borrow.Author.Tests.{le-leb, leb-true}
+use base.Fml.{Fml}
+use denote.Array.{each}
+use denote.Shadow.{shadow}
+use mir.Val.{Val}
+use lib.Dec.{leb}
+use lib.ListN.{length, get_or, take, drop, set, replicate, length-append, length-replicate, length-take}
 use lib.Seq.{drop_at, get_or-set_other, get_or-set_same, length-take-le, take_all, take-append-le, take-append_seam, take-suc, take-take}
+use Rattle.chars.specs.Lists.{all}
 use Rattle.chars.specs.Write.{Wrote}
+use Rattle.chars.proofs.Laws.Lists.{all_append, all-at, all_map, all_take, and_both}
 use Rattle.chars.proofs.Laws.Write.{wrote-length, wrote-place}
 use Rattle.oraddr.specs.Attributes.{Attributes, levels}
-use Rattle.oraddr.specs.Bounds.{level_count, single_count}
+use Rattle.oraddr.specs.Bounds.{level_count, most, single_count}
+use Rattle.oraddr.specs.View.{singles_view, unit_view, units_view, value_view, view}
+use Rattle.oraddr.specs.declared.record.Record.{Record}
 use Rattle.mailaddr.specs.Domain.{in_front}
 use Rattle.table.specs.Table.{Token}
 use Rattle.table.specs.Rows.{between}
@@ -134,11 +146,43 @@ filled-all ls n flat ends e room within m f =
       most = omega (arith, f.last);
     }
 
--- ---- the levels of a record are eight
+-- ---- the levels of a record are eight, each short enough for its room
 
 pub length-levels : (a : Attributes) → length a.single ≡ single_count → length (levels a) ≡ level_count
 unfolding levels
 length-levels a h = simp (length-append, length-take, length-replicate) (omega arith)
+
+-- what owning an element of an array tells of it, of every element
+pub all-good : {D X : Type 0} (own : D → List Val → Fml) (into : X → D) (p : X → Bool) → ((x : X) (vs : List Val) → shadow (own (into x) vs) → p x ≡ true)
+    → (xs : List X) (us : List Val) → shadow (each D own (map into xs) us) → all p xs ≡ true
+unfolding all
+all-good own into p f [] us h = refl
+all-good own into p f (x ∷ xs) [] h = absurd h
+all-good own into p f (x ∷ xs) (u ∷ us) h = and_both (f x (u ∷ []) h.0) (all-good own into p f xs us h.1)
+
+-- a level has 64 bytes at most
+abbrev pub is_short : Token → Bool
+is_short t = leb (length t) 64
+
+pub short-part : (n : ℕ) (s : List ℕ) → length s ≤ 64 → is_short (take n s) ≡ true
+short-part n s h = le-leb (length (take n s)) 64 (simp length-take (omega arith))
+
+short-levels : (r : Record) → all (λ v. is_short (value_view v)) r.singles.values ≡ true → all (λ u. is_short (unit_view u)) r.units.names ≡ true
+    → all is_short (levels (view r)) ≡ true
+unfolding levels view singles_view units_view all
+short-levels r h g =
+    let singles : List Token = map value_view r.singles.values in
+    let units : List Token = take r.units.count (map unit_view r.units.names) in
+    all_append is_short (take 4 singles) (take most (units ++ replicate most []))
+    ∙ and_both
+    (all_take is_short 4 singles (all_map is_short value_view r.singles.values ∙ h))
+    (all_take is_short most (units ++ replicate most [])
+    (all_append is_short units (replicate most [])
+    ∙ and_both (all_take is_short r.units.count (map unit_view r.units.names) (all_map is_short unit_view r.units.names ∙ g)) refl))
+
+pub level_short : (r : Record) → all (λ v. is_short (value_view v)) r.singles.values ≡ true → all (λ u. is_short (unit_view u)) r.units.names ≡ true
+    → (k : ℕ) → k < length (levels (view r)) → length (get_or (levels (view r)) k []) ≤ 64
+level_short r h g k l = leb-true (length (get_or (levels (view r)) k [])) 64 (all-at is_short (levels (view r)) k [] (short-levels r h g) l)
 
 -- ---- levels in front of a domain
 

@@ -1,9 +1,10 @@
--- Laws of how a record goes out: the route under a row and at the gateway, how long its address is, and the address that was written.
+-- Laws of how a record goes out: the route under a row and at the gateway, how long its address is, the address that was written, and that
+-- record to address reads only the gateway and the rows to a domain.
 -- Assumes nothing.
 use mathlib.Core.Path.{◌≡◌, refl, sym, ap, subst, ◌∙◌}
-use mathlib.Core.Bool.{true, false}
+use mathlib.Core.Bool.{true, false, cond}
 use mathlib.Core.List.{List, ◌∷◌, ◌++◌}
-use mathlib.Core.Option.{none, some}
+use mathlib.Core.Option.{Option, none, some}
 use Prim.Native.Nat.{ℕ, ◌+◌, ◌≤◌}
 use native.Mathlib.Omega.{arith}
 use lib.ListN.{length, take, drop, length-append, length-drop}
@@ -33,7 +34,7 @@ use Rattle.table.specs.declared.line as line
 use Rattle.table.specs.declared.load as load
 use Rattle.table.proofs.Laws.Fields.{between-length}
 use Rattle.table_lookup.proofs.Laws.Lookup.{extension-front}
-use Rattle.mapping.specs.Answers.{Fronted, Routed, address_bad_line, address_number, address_room, routed_text, told_address}
+use Rattle.mapping.specs.Answers.{Fronted, Routed, address_bad_line, address_number, address_room, outward, routed_text, told_address}
 use Rattle.mapping.specs.Flat.{fronts}
 use Rattle.mapping.specs.Results.{placed, refused_address}
 use Rattle.mapping.specs.ToAddress.{Plan, address_of, carried_address, extended, is_carrier, is_carrier_at, placed_in, plan, plan_by, plan_under, planned, to_address}
@@ -41,6 +42,7 @@ use Rattle.mapping.specs.declared.answers.AddressRefusal.TheVariants.{NoAddress,
 use Rattle.mapping.specs.declared.route.Route.{Route}
 use Rattle.mapping.proofs.Laws.Flat.{extended-fronts}
 use Rattle.mapping.proofs.Laws.Fronts.{some-room}
+use Rattle.mapping.proofs.Laws.Sides.{outward-same}
 
 -- ---- the route
 
@@ -162,3 +164,12 @@ module _ (t : Table) (r : Record) (old : List ℕ) where
   pub answer-placed : (s : List ℕ) → canonical_record r ≡ true → address_of t (view r) ≡ some s → placed s old ≡ to_address t r old
   unfolding to_address placed_in
   answer-placed s h e = rw (h, e)
+
+-- only the gateway and the rows from a path to a domain are read
+module _ (s ds rs : List ℕ) (t : load.Loaded.Loaded) where
+  pub address-under : (a : Attributes) → address_of (outward s rs t) a ≡ address_of (table_at s ds rs t) a
+  address-under a = outward-same s ds rs t a
+
+  pub address-table : (r : Record) (old : List ℕ) → to_address (outward s rs t) r old ≡ to_address (table_at s ds rs t) r old
+  unfolding to_address
+  address-table r old = ap (λ (o : Option (List ℕ)). cond (canonical_record r) (placed_in old o) (refused_address 4 old)) (address-under (view r))

@@ -2,16 +2,18 @@
 -- Assumes nothing.
 use mathlib.Core.Path.{◌≡◌, refl, ◌∙◌}
 use Prim.Native.Nat.{ℕ, zero, suc, ◌≤◌}
-use mathlib.Core.Bool.{true}
-use mathlib.Core.List.{List}
+use mathlib.Core.Bool.{true, false, and-true}
+use mathlib.Core.List.{List, [], ◌∷◌}
 use native.Mathlib.Omega.{arith}
 use lib.Dec.{eqb}
-use lib.ListN.{length, take, replicate, length-replicate}
+use lib.ListN.{length, get_or, take, replicate, length-replicate}
 use Rattle.chars.specs.Lists.{all}
+use Rattle.chars.specs.Case.{agree, equal_text}
 use Rattle.chars.specs.Write.{Wrote, front}
 use Rattle.chars.proofs.Laws.Lists.{all_drop}
+use Rattle.chars.proofs.Laws.Case.{agree_lengths_differ}
 use Rattle.chars.proofs.Laws.Write.{length_front, take-front, drop-front, wrote-front}
-use Rattle.oraddr.specs.Bounds.{bound_of, dd_type, dd_value}
+use Rattle.oraddr.specs.Bounds.{bound_of, dd_type, dd_value, is_space}
 use Rattle.oraddr.specs.View.{clean_text, dd_view, domain_defined_of, held_text, text_of}
 
 -- ---- over the room
@@ -38,6 +40,19 @@ length_of w = omega (arith, w.moved)
 
 pub made_of : {s new : List ℕ} {n : ℕ} (room : ℕ) → length s ≤ room → Wrote (replicate room 0) 0 s n new → new ≡ front s (replicate room 0)
 made_of room h w = wrote-front w (simp length-replicate h)
+
+-- ---- one space
+
+-- a text of one byte is one space where that byte is a space, and a text of another length is not
+pub one_space : (s : List ℕ) → length s ≡ 1 → is_space s ≡ eqb (get_or s 0 0) 32
+unfolding is_space equal_text agree
+one_space [] h = absurd (omega arith)
+one_space (x ∷ []) h = and-true (eqb x 32)
+one_space (x ∷ y ∷ s) h = absurd (omega arith)
+
+pub not_space : (s : List ℕ) → (length s ≡ 1 → ⊥) → is_space s ≡ false
+unfolding is_space equal_text
+not_space s h = agree_lengths_differ eqb s (32 ∷ []) h
 
 -- ---- of the structs
 

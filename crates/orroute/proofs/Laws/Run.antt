@@ -2,7 +2,7 @@
 -- Assumes nothing.
 use Rattle.std.proofs.Common.{IfOk, Result, Ok, Err}
 use mathlib.Core.Path.{◌≡◌, refl, sym, ap, subst, ◌∙◌}
-use mathlib.Core.Bool.{Bool, true, false, cond}
+use mathlib.Core.Bool.{Bool, true, cond}
 use mathlib.Core.List.{List, [], ◌++◌, append_assoc}
 use Prim.Native.Nat.{ℕ, ◌+◌, ◌-◌, ◌≤◌, ◌<◌}
 use native.Mathlib.Omega.{arith}
@@ -10,10 +10,10 @@ use borrow.Author.Tests.{eq-eqb, eqb-true, ltb-true}
 use lib.Dec.{eqb, ltb}
 use lib.ListN.{length, take, drop}
 use lib.Seq.{length-take-le, paste, take-append-add, take-append-le}
-use Rattle.chars.proofs.Laws.Lists.{by_test, true_not_false}
+use Rattle.chars.proofs.Laws.Lists.{by_test}
 use Rattle.chars.proofs.Laws.Write.{wrote-length, wrote_taken}
 use Rattle.table.specs.Lines.{TableOutcome}
-use Rattle.router_line.specs.Line.{answer_room, longest_line}
+use Rattle.router_line.specs.Line.{answer_room}
 use Rattle.table_load.specs.Load.{FormedBy}
 use Rattle.router.specs.Run.{Routing, Waits, due}
 use Rattle.router.specs.declared.run.Routed.{Routed}
@@ -75,3 +75,10 @@ stepped l over d p rest size n h k (Ok w) left a = record {
     answered = subst (λ (q : List ℕ). Answered l over q (eqb n 0) w (left w)) (read_behind d p rest size n h k) a.answered;
   };
 }
+
+-- a loop that goes on while something is taken ends: each turn leaves less to do
+pub turn_less : (t n : ℕ) (b : Bool) → t ≤ n → b ≡ true → cond (ltb 0 t) (n - t + 1) 0 < cond b (n + 1) 0
+turn_less t n b k e =
+    rw e (by_test (ltb 0 t)
+    (λ h. rw h (omega (arith, ltb-true 0 t h)))
+    (λ h. rw h (omega arith)))

@@ -4,13 +4,14 @@ use mathlib.Core.Path.{◌≡◌, refl, sym, ap, ◌∙◌}
 use Prim.Native.Nat.{ℕ, suc, ◌+◌, ◌-◌, ◌≤◌, ◌<◌}
 use native.Mathlib.Numerals.{add-one}
 use native.Mathlib.Omega.{arith}
-use mathlib.Core.Bool.{Bool, true, false}
+use mathlib.Core.Bool.{Bool, true, false, cond}
 use mathlib.Core.List.{List, [], ◌∷◌, ◌++◌, append-nil}
 use lib.Dec.{eqb}
 use borrow.Author.Tests.{ne_eqb}
 use lib.ListN.{length, take, drop, get_or, set, drop_of_length-le}
-use lib.Seq.{append_snoc, drop-cons, take-suc-set, length-take-le}
+use lib.Seq.{append_snoc, drop-cons, slice, slice-cons, slice_empty, take-suc-set, length-take-le}
 use Rattle.chars.specs.Lists.{non_empty}
+use Rattle.chars.proofs.Laws.Lists.{by_test}
 use Rattle.chars.proofs.Laws.Seq.{some-length}
 use Rattle.ortext_segments.specs.Keys.{dd_key}
 use Rattle.ortext_segments.specs.Segments.{unquoted}
@@ -47,6 +48,27 @@ unquoted-quoted x y t e = rw e
 unquoted-end : (x : ℕ) → eqb x 36 ≡ true → unquoted (x ∷ []) ≡ []
 unfolding unquoted
 unquoted-end x e = rw e
+
+-- One byte of a part without its quoting. `at` is where that byte stands, behind a `$` that quotes it; a `$` at the end quotes nothing.
+module _ (s : List ℕ) (i end at : ℕ) (h : i < end) (l : end ≤ length s) (e : at ≡ cond (eqb (get_or s i 0) 36) (i + 1) i) where
+  pub unquoted_step : at < end → unquoted (slice i end s) ≡ get_or s at 0 ∷ unquoted (slice (at + 1) end s)
+  unquoted_step m =
+      by_test (eqb (get_or s i 0) 36)
+      (λ q. let a : at ≡ i + 1 = e ∙ rw q in
+      rw (a, slice-cons i end s 0 h l, add-one i, slice-cons (suc i) end s 0 (omega arith) l, add-one (suc i)) (unquoted-quoted (get_or s i 0) (get_or s (suc i) 0) (slice (suc (suc i)) end s) q))
+      (λ q. let a : at ≡ i = e ∙ rw q in
+      rw (a, slice-cons i end s 0 h l, add-one i) (unquoted-plain (get_or s i 0) (slice (suc i) end s) q))
+
+  pub unquoted-last : end ≤ at → unquoted (slice i end s) ≡ []
+  unquoted-last m =
+      by_test (eqb (get_or s i 0) 36)
+      (λ q. let b : at ≡ i + 1 = e ∙ rw q in
+      let a : end ≡ suc i = omega arith in
+      rw (slice-cons i end s 0 h l, a, slice_empty) (unquoted-end (get_or s i 0) q))
+      (λ q. let b : at ≡ i = e ∙ rw q in absurd (omega arith))
+
+  pub quote_on : i ≤ at
+  quote_on = by_test (eqb (get_or s i 0) 36) (λ q. let b : at ≡ i + 1 = e ∙ rw q in omega arith) (λ q. let b : at ≡ i = e ∙ rw q in omega arith)
 
 -- what is left of a text, where it begins with what a `$` quotes or does not
 unfoldable pub unquoted_after : Bool → List ℕ → List ℕ

@@ -219,6 +219,24 @@ module _ (n : ℕ) (a : Attributes) where
 -- ---- which form is written
 
 module _ (a : Attributes) where
+  -- one of the first four levels, a unit or a common name leaves more than a name; without these, the DDs decide
+  pub only_own : all (λ s. not (non_empty s)) (take own_levels a.single) ≡ false → only_name a ≡ false
+  unfolding only_name
+  only_own h = rw h
+
+  pub only_units : 0 < length a.units → only_name a ≡ false
+  unfolding only_name
+  only_units h = rw (some-length a.units h, and-false (all (λ s. not (non_empty s)) (take own_levels a.single)))
+
+  pub only_common : 0 < length (single_of a CN) → only_name a ≡ false
+  unfolding only_name
+  only_common h = rw (some-length (single_of a CN) h, and-false (all (λ s. not (non_empty s)) (take own_levels a.single) && not (non_empty a.units)))
+
+  pub only_rest : all (λ s. not (non_empty s)) (take own_levels a.single) ≡ true → length a.units ≤ 0 → length (single_of a CN) ≤ 0
+      → eqb (length a.dds) 0 ≡ only_name a
+  unfolding only_name non_empty
+  only_rest h k j = rw (h, no_length a.units k, no_length (single_of a CN) j) (none_test a.dds)
+
   pub writes_not : only_name a ≡ false → writes_short a ≡ false
   unfolding writes_short
   writes_not h = rw h

@@ -32,8 +32,10 @@ use Rattle.table.specs.Formed.{Formed}
 use Rattle.table.specs.Lines as lines
 use Rattle.table.specs.Lines.{malformed, well_formed}
 use Rattle.table_load.specs.Load.{FormedBy}
+use Rattle.table.specs.Rows.{table_at}
 use Rattle.table.specs.Table.{Table}
-use Rattle.mapping.specs.Answers.{address_room, record_number, told_record}
+use Rattle.table.specs.declared.load.Loaded.{Loaded}
+use Rattle.mapping.specs.Answers.{address_room, outward, record_number, told_record}
 use Rattle.mapping.specs.Results.{RecordResult, malformed_record}
 use Rattle.mapping.specs.ToAddress.{address_of}
 use Rattle.mapping.specs.ToRecord.{to_record, to_record_by}
@@ -41,6 +43,7 @@ use Rattle.mapping.specs.declared.answers.RecordRefusal.{RecordRefusal}
 use Rattle.mapping.specs.declared.answers.RecordRefusal.TheVariants as refusal
 use Rattle.mapping.proofs.Laws.Returned.{done-canonical}
 use Rattle.mapping.proofs.Laws.Short.{address-most}
+use Rattle.mapping.proofs.Laws.Sides.{outward-same}
 use Rattle.mapping.proofs.Laws.Whole.{text-places}
 use Rattle.router_line.specs.Line.{answer_room, done_line, line_answer, longest_line, read_line, record_line, refused_line, sent_line, tagged_line, text_at, text_line}
 
@@ -113,6 +116,19 @@ fault_line t Again = refl
 pub read_not : (t : Table) (e : Record) (s : List ℕ) (f : TextFault) → e ≡ empty_record → told_reading (Err f) ≡ reading_result (read_text keys 0 e s)
     → refused_line 4 ≡ text_line (well_formed t) s
 read_not t e s f z k = fault_line t f ∙ read_as t e s (Err f) z k (reading (Err f)) refl
+
+-- record to address reads the gateway and the rows to a domain alone, and so does a line's answer
+module _ (s ds rs : List ℕ) (t : Loaded) where
+  pub line-under : (x : apply.Reading) → read_line (outward s rs t) x ≡ read_line (table_at s ds rs t) x
+  unfolding read_line
+  line-under unread = refl
+  line-under refused = refl
+  line-under again = refl
+  line-under (read r) = ap (λ (o : Option (List ℕ)). cond (canonical_record r) (sent_line o) (refused_line 4)) (outward-same s ds rs t (view r))
+
+  pub text-under : (a : List ℕ) → text_line (well_formed (outward s rs t)) a ≡ text_line (well_formed (table_at s ds rs t)) a
+  unfolding text_line
+  text-under a = line-under (read_text keys 0 empty_record a)
 
 -- ---- the form of a line
 

@@ -5,7 +5,7 @@ use mathlib.Core.List.{List}
 use Prim.Native.Nat.{ℕ}
 use Rattle.table.specs.Lines as lines
 use Rattle.table.specs.Lines.{loaded_from, malformed, well_formed}
-use Rattle.std.specs.Prelude.{Result, Ok, Err}
+use Rattle.std.specs.Prelude.{Result, Ok, Err, IfOk}
 use Rattle.table.specs.declared.load.Loaded.{Loaded}
 use Rattle.table.specs.declared.load.Malformed.{Malformed}
 use Rattle.table.proofs.Laws.Formed.{loaded_formed}
@@ -38,3 +38,9 @@ loading_ready s ds rs r h = formed-ready s ds rs r (loaded_from s) h (loaded_rul
 pub read_formed : (r : Result tables.Table.Table Malformed) → FormedBy (table_answer r)
 read_formed (Ok t) = t.formed
 read_formed (Err e) = tt
+
+-- and, where it keeps a text, that it is in order and keeps its rules over this text
+pub read_ready : (s : List ℕ) (r : Result tables.Table.Table Malformed) → IfOk r (λ t. t.text.now ≡ s)
+    → IfOk r (λ t. Ready s t.to_path.now t.to_domain.now (Ok t.loaded))
+read_ready s (Ok t) e = subst (λ (x : List ℕ). Ready x t.to_path.now t.to_domain.now (Ok t.loaded)) e (t.kept, t.formed)
+read_ready s (Err m) e = e

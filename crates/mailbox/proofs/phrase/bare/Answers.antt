@@ -9,9 +9,12 @@ pub returns-in_err-a : goal.returns-in_err-a
 returns-in_err-a c =
     let a = c.args in
     rw c.from_residual.ensures
-    (mailbox-unread a.s.now c.addr_spec.new.dst 0 0 (addr_spec (tokens_of a.s.now a.word)) c.in_err-a.ensures.told)
+    (mailbox-unread a.s.now c.addr_spec.new.dst c.addr_spec.result 0 0 (addr_spec (tokens_of a.s.now a.word)) c.addr_spec.ensures.told c.in_err-a.ensures.value)
 
 pub returns : goal.returns
 returns c =
     let a = c.args in
-    mailbox-reads a.s.now c.addr_spec.new.dst c.in_ok-a.a 0 0 (addr_spec (tokens_of a.s.now a.word)) c.mailbox_of.result c.in_ok-a.ensures c.mailbox_of.ensures
+    mailbox-reads a.s.now c.addr_spec.new.dst c.addr_spec.result c.in_ok-a.a 0 0 (addr_spec (tokens_of a.s.now a.word)) c.mailbox_of.result
+    c.addr_spec.ensures
+    c.in_ok-a.ensures.value
+    c.mailbox_of.ensures

@@ -13,26 +13,26 @@ use Rattle.mailbox_address.proofs.Laws.Dotted.{after_dot, after_last, dotted-non
 use Rattle.mailbox_address.proofs.Laws.Lexeme.{allowed-word, meaning-length, special-ahead, word-ahead}
 use Rattle.mailbox_address.proofs.read.read_dotted.Goals as goal
 
-pub loop-t-init : goal.loop-t-init
-loop-t-init c = (refl, c.requires.stands, c.requires.at_le_start.0, refl)
+pub loop-kind-init : goal.loop-kind-init
+loop-kind-init c = (refl, c.requires.stands, c.requires.at_le_start.0, refl)
 
 pub returns-then-not-is_allowed : goal.returns-then-not-is_allowed
 unfolding after told_dotted
 returns-then-not-is_allowed c =
-    let l = c.loop-t in
+    let l = c.loop-kind in
     let a = c.args in
     record {
       told = sym
           (l.invariant.0
           ∙ ap (after (take l.size l.dst) l.quoted) (dotted-none a.s.now l.t a.quotable (sym c.is_allowed.ensures ∙ c.if-not-is_allowed.true)));
-      stands = tt;
+      stands = l.invariant.1;
       low = tt;
     }
 
 pub returns-then-not-is_special : goal.returns-then-not-is_special
 unfolding told_dotted
 returns-then-not-is_special c =
-    let l = c.loop-t in
+    let l = c.loop-kind in
     let a = c.args in
     let w = c.put_word-end in
     let n = c.next_token-next in
@@ -56,7 +56,7 @@ returns-then-not-is_special c =
 
 pub bounds-dst-end : goal.bounds-dst-end
 bounds-dst-end c =
-    let l = c.loop-t in
+    let l = c.loop-kind in
     let s = c.args.s.now in
     let w = c.put_word-end in
     let n = c.next_token-next in
@@ -76,7 +76,7 @@ bounds-dst-end c =
 
 pub overflow_add-size : goal.overflow_add-size
 overflow_add-size c =
-    let l = c.loop-t in
+    let l = c.loop-kind in
     let s = c.args.s.now in
     let w = c.put_word-end in
     let n = c.next_token-next in
@@ -91,9 +91,9 @@ overflow_add-size c =
       n.ensures.stands.high,
     )
 
-pub loop-t-smaller : goal.loop-t-smaller
-loop-t-smaller c =
-    let l = c.loop-t in
+pub loop-kind-smaller : goal.loop-kind-smaller
+loop-kind-smaller c =
+    let l = c.loop-kind in
     let w = c.put_word-end in
     let n = c.next_token-next in
     let a = c.args in
@@ -106,9 +106,9 @@ loop-t-smaller c =
       word-ahead a.s.now l.t (allowed-word l.t.kind a.quotable (sym c.is_allowed.ensures ∙ c.if-not-is_allowed.false)) l.invariant.1,
     )
 
-pub loop-t-preserved : goal.loop-t-preserved
-loop-t-preserved c =
-    let l = c.loop-t in
+pub loop-kind-preserved : goal.loop-kind-preserved
+loop-kind-preserved c =
+    let l = c.loop-kind in
     let a = c.args in
     let w = c.put_word-end in
     let n = c.next_token-next in

@@ -10,13 +10,13 @@ use Rattle.mailbox_address.specs.Answers.{after}
 use Rattle.mailbox_address.specs.Grammar.{allowed, dotted}
 use Rattle.mailbox_address.proofs.read.read_dotted.Given as goal
 
-abbrev pub invariant-loop-t : goal.invariant-loop-t
-invariant-loop-t l =
+abbrev pub invariant-loop-kind : goal.invariant-loop-kind
+invariant-loop-kind l =
     (after (take l.at l.initial.dst) false (dotted (allowed l.quotable) (tokens_of l.s l.initial.t))
     ≡ after (take l.size l.dst) l.quoted (dotted (allowed l.quotable) (tokens_of l.s l.t)))
     × Stands l.s l.t
     × (l.size ≤ l.t.start)
     × (length l.dst ≡ length l.initial.dst)
 
-abbrev pub decreases-loop-t : goal.decreases-loop-t
-decreases-loop-t l = length l.s - l.t.start
+abbrev pub decreases-loop-kind : goal.decreases-loop-kind
+decreases-loop-kind l = length l.s - l.t.start

@@ -2,6 +2,8 @@
 -- Assumes nothing.
 use Rattle.std.proofs.Common.{◌∙◌, arith, refl, sym, ap, List, Option}
 use mathlib.Core.Option.{some}
+use Rattle.std.proofs.lemmas.Result.{IfErr-at_err, err_from_is_err_and}
+use Rattle.lexical.specs.Answers.{Stands}
 use Rattle.lexical.specs.Tokens.{Token, tokens_at}
 use Rattle.mailbox_address.specs.Answers.{route_by, route_on, told_route}
 use Rattle.mailbox_address.specs.declared.route.RouteState.{RouteState}
@@ -18,12 +20,14 @@ returns-in_err-state c =
     let l = c.loop-state in
     let s = c.args.s.now in
     let ts = tokens_at s l.t.end in
-    rw c.from_residual.ensures
+    let p = err_from_is_err_and c.from_residual.result c.from_residual.ensures.1 in
+    let k = c.in_err-state.ensures in
+    rw (p.1, p.2)
     (record {
       told = sym
           (l.invariant.0 ∙ route_steps l.state s l.t l.invariant.2
-          ∙ ap (λ (o : Option RouteState). route_on o ts) (sym c.in_err-state.ensures));
-      stands = tt;
+          ∙ ap (λ (o : Option RouteState). route_on o ts) (sym c.route_step.ensures ∙ k.ok_part));
+      stands = IfErr-at_err (Stands s) (sym (rw k.ok_part at k.value)) l.invariant.1;
     })
 
 pub returns-then-is_over : goal.returns-then-is_over
@@ -36,7 +40,7 @@ returns-then-is_over c =
     record {
       told = sym
           (l.invariant.0 ∙ route_steps l.state s l.t l.invariant.2
-          ∙ ap (λ (o : Option RouteState). route_on o ts) (sym c.in_ok-state.ensures)
+          ∙ ap (λ (o : Option RouteState). route_on o ts) (sym c.route_step.ensures ∙ c.in_ok-state.ensures.ok_part)
           ∙ over_some c.in_ok-state.state ts (sym c.is_over.ensures ∙ c.if-is_over.true)
           ∙ ap (λ (ts : List Token). some ts) n.ensures.tokens);
       stands = n.ensures.stands;
@@ -49,7 +53,7 @@ loop-state-smaller c =
       arith,
       c.next_token-t.ensures.low,
       l.invariant.1.high,
-      route-ahead l.state c.in_ok-state.state c.args.s.now l.t c.in_ok-state.ensures l.invariant.1,
+      route-ahead l.state c.in_ok-state.state c.args.s.now l.t (sym c.in_ok-state.ensures.ok_part ∙ c.route_step.ensures) l.invariant.1,
     )
 
 pub loop-state-preserved : goal.loop-state-preserved
@@ -59,7 +63,7 @@ loop-state-preserved c =
     let s = c.args.s.now in
     let n = c.next_token-t in (
       l.invariant.0 ∙ route_steps l.state s l.t l.invariant.2
-          ∙ ap (λ (o : Option RouteState). route_on o (tokens_at s l.t.end)) (sym c.in_ok-state.ensures)
+          ∙ ap (λ (o : Option RouteState). route_on o (tokens_at s l.t.end)) (sym c.route_step.ensures ∙ c.in_ok-state.ensures.ok_part)
           ∙ ap (route_by c.in_ok-state.state) n.ensures.tokens,
       n.ensures.stands,
       sym c.is_over.ensures ∙ c.if-is_over.false,

@@ -9,4 +9,4 @@ pub returns : goal.returns
 unfolding address_to_record
 returns c =
     let a = c.args in
-    c.address_under.ensures ∙ ap (λ (x : TableOutcome). to_record_by x a.s.now) c.read_table.ensures.answers
+    c.address_under.ensures ∙ c.of_read.ensures a.s.now ∙ ap (λ (x : TableOutcome). to_record_by x a.s.now) c.read_table-read.ensures.answers

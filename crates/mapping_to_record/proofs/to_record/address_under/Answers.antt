@@ -1,6 +1,5 @@
 -- `mapping_to_record::to_record::address_under` meets its contract: 7 where the table is malformed, else the address under the table that was read.
 -- Assumes nothing.
-use mathlib.Core.Path.{◌∙◌}
 use Rattle.std.proofs.lemmas.Result.{err_from_is_err_and}
 use Rattle.mapping.specs.Answers.{record_bad_line, record_number, told_record}
 use Rattle.mapping.specs.Results.{malformed_record}
@@ -15,4 +14,4 @@ returns-in_err-read c =
 
 pub returns : goal.returns
 unfolding to_record_by
-returns c = rw c.in_ok-read.was (c.map_address.ensures ∙ c.of.ensures c.args.s.now)
+returns c = rw c.in_ok-read.was c.map_address.ensures

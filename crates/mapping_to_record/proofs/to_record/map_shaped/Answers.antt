@@ -20,7 +20,7 @@ returns-in-Ok c =
     let a = c.args in
     let t = inward a.table.now.text.now a.table.now.to_path.now a.table.now.loaded in
     let x = address_at a.s.now a.parted in
-    let e : read c.in-Ok.rec ≡ read_well t x = reads_as (Ok c.in-Ok.rec) (read_well t x) c.in-Ok.ensures in
+    let e : read c.in-Ok.rec ≡ read_well t x = reads_as (Ok c.in-Ok.rec) (read_well t x) (rw c.in-Ok.is at c.read_parted.ensures) in
     sym (shaped-good t x a.s.now c.in-Ok.rec e (sym c.is_canonical.ensures ∙ c.if-is_canonical.true))
 
 pub returns-in_default : goal.returns-in_default
@@ -32,10 +32,10 @@ returns-in_default c =
     let carried = shaped-carried t x a.s.now in
     elim c.in_default.branch [
       | in_default-via-in-Ok+else-is_canonical w ↦
-          let e : read w.in-Ok.rec ≡ read_well t x = reads_as (Ok w.in-Ok.rec) (read_well t x) w.in-Ok.ensures in
+          let e : read w.in-Ok.rec ≡ read_well t x = reads_as (Ok w.in-Ok.rec) (read_well t x) (rw w.in-Ok.is at c.read_parted.ensures) in
           c.carry.ensures ∙ sym (carried (ap is_good (sym e) ∙ sym w.is_canonical.ensures ∙ w.if-is_canonical.false))
       | in_default-via-in_default w ↦
           let f = w.in_default.field-0 in
-          let e : fault_reading f ≡ read_well t x = reads_as (Err f) (read_well t x) w.in_default.ensures in
+          let e : fault_reading f ≡ read_well t x = reads_as (Err f) (read_well t x) (rw w.in_default.is at c.read_parted.ensures) in
           c.carry.ensures ∙ sym (carried (ap is_good (sym e) ∙ fault-not_good f))
     ]

@@ -5,10 +5,10 @@ use Rattle.ortext_read.specs.Answers.{fault_reading, reading, reading_result}
 use Rattle.mapping.specs.Answers.{read_settled}
 use Rattle.mapping_to_record.proofs.to_record.read_over.Goals as goal
 
-pub returns-else-is_readable : goal.returns-else-is_readable
+pub returns-then-not-is_readable : goal.returns-then-not-is_readable
 unfolding read_settled reading fault_reading reading_result
-returns-else-is_readable c = rw (sym c.is_readable.ensures ∙ c.if-is_readable.false)
+returns-then-not-is_readable c = rw (sym c.is_readable.ensures ∙ c.if-not-is_readable.true)
 
-pub returns-then-is_readable : goal.returns-then-is_readable
+pub returns : goal.returns
 unfolding read_settled
-returns-then-is_readable c = rw (sym c.is_readable.ensures ∙ c.if-is_readable.true) c.read_local.ensures
+returns c = rw (sym c.is_readable.ensures ∙ c.if-not-is_readable.false) c.read_local.ensures

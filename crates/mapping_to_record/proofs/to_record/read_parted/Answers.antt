@@ -32,9 +32,9 @@ returns-then-not-is_domain c =
     let a = c.args in
     answer-unread (well_other (inward a.table.now.text.now a.table.now.to_path.now a.table.now.loaded) (address_at a.s.now a.parted) (tested a.parted.at a.s.now c.is_domain.ensures c.if-not-is_domain.true))
 
-pub returns-in-Ok : goal.returns-in-Ok
+pub returns : goal.returns
 unfolding address_at local_at
-returns-in-Ok c =
+returns c =
     let a = c.args in
     let t = inward a.table.now.text.now a.table.now.to_path.now a.table.now.loaded in
     let d = tested a.parted.at a.s.now c.is_domain.ensures c.if-not-is_domain.false in
@@ -42,10 +42,10 @@ returns-in-Ok c =
     ∙ ap reading_result (sym (well_settled t (address_at a.s.now a.parted) d _ _
     (settles t a.parted.at a.s.now (rw c.in-Ok.is at c.settle_under.ensures))))
 
-pub returns-in-Err : goal.returns-in-Err
+pub returns-in_default : goal.returns-in_default
 unfolding address_at
-returns-in-Err c =
+returns-in_default c =
     let a = c.args in
     let t = inward a.table.now.text.now a.table.now.to_path.now a.table.now.loaded in
     let d = tested a.parted.at a.s.now c.is_domain.ensures c.if-not-is_domain.false in
-    answer-unread (well_unsettled t (address_at a.s.now a.parted) d _ (settles t a.parted.at a.s.now (rw c.in-Err.is at c.settle_under.ensures)))
+    answer-unread (well_unsettled t (address_at a.s.now a.parted) d _ (settles t a.parted.at a.s.now (rw c.in_default.is at c.settle_under.ensures)))

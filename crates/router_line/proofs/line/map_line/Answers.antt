@@ -16,14 +16,14 @@ put_record-requires c =
     let a = c.args in
     record {
       dst_len = c.requires;
-      canonical = record_canonical (table_of a.table.now) a.s.now c.in-Ok.rec (c.in-Ok.ensures ∙ c.of.ensures a.s.now) a.table.now.formed;
+      canonical = record_canonical (table_of a.table.now) a.s.now c.in-Ok.rec ((rw c.in-Ok.is at c.map_address.ensures) ∙ c.of.ensures a.s.now) a.table.now.formed;
     }
 
 pub returns-in-Ok : goal.returns-in-Ok
 returns-in-Ok c =
     let a = c.args in
     let t = table_of a.table.now in
-    wrote_as (done_line (record_text keys (view c.in-Ok.rec))) (record_line (to_record t a.s.now)) (record_done t a.s.now c.in-Ok.rec (c.in-Ok.ensures ∙ c.of.ensures a.s.now))
+    wrote_as (done_line (record_text keys (view c.in-Ok.rec))) (record_line (to_record t a.s.now)) (record_done t a.s.now c.in-Ok.rec ((rw c.in-Ok.is at c.map_address.ensures) ∙ c.of.ensures a.s.now))
     c.put_record.ensures
 
 pub returns-in-Err : goal.returns-in-Err
@@ -31,5 +31,5 @@ returns-in-Err c =
     let a = c.args in
     let t = table_of a.table.now in
     wrote_as (refused_line c.number.result) (record_line (to_record t a.s.now))
-    (ap refused_line c.number.ensures.value ∙ record_not t a.s.now c.in-Err.refusal (c.in-Err.ensures ∙ c.of.ensures a.s.now))
+    (ap refused_line c.number.ensures.value ∙ record_not t a.s.now c.in-Err.refusal ((rw c.in-Err.is at c.map_address.ensures) ∙ c.of.ensures a.s.now))
     c.put_refusal.ensures

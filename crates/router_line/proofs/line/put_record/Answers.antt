@@ -27,24 +27,24 @@ room_left d new x n h k w = omega (arith, w.moved, text_bound (view x) (canonica
 pub write_text-end-requires : goal.write_text-end-requires
 write_text-end-requires c =
     let d = c.args.dst.now in
-    let bound = text_bound (view c.args.rec) (canonical-view c.args.rec c.requires.canonical) 0 in
+    let bound = text_bound (view c.args.rec.now) (canonical-view c.args.rec.now c.requires.canonical) 0 in
     omega (arith, bound, c.requires.dst_len, length-set (set d 0 48) 1 9, length-set d 0 48)
 
 pub bounds-dst-end : goal.bounds-dst-end
 unfolding remaining
 bounds-dst-end c =
     let t = c.write_text-end in
-    let w : Wrote c.args.dst.now 0 (48 ∷ 9 ∷ record_text keys (view c.args.rec)) t.result t.new.dst =
+    let w : Wrote c.args.dst.now 0 (48 ∷ 9 ∷ record_text keys (view c.args.rec.now)) t.result t.new.dst =
     wrote_then (wrote_then (wrote_one 48) (wrote_one 9)) t.ensures in
-    omega (arith, room_left c.args.dst.now t.new.dst c.args.rec t.result c.requires.dst_len c.requires.canonical w, wrote-length w)
+    omega (arith, room_left c.args.dst.now t.new.dst c.args.rec.now t.result c.requires.dst_len c.requires.canonical w, wrote-length w)
 
 pub overflow_add-result : goal.overflow_add-result
 unfolding remaining
 overflow_add-result c =
     let t = c.write_text-end in
-    let w : Wrote c.args.dst.now 0 (48 ∷ 9 ∷ record_text keys (view c.args.rec)) t.result t.new.dst =
+    let w : Wrote c.args.dst.now 0 (48 ∷ 9 ∷ record_text keys (view c.args.rec.now)) t.result t.new.dst =
     wrote_then (wrote_then (wrote_one 48) (wrote_one 9)) t.ensures in
-    omega (arith, room_left c.args.dst.now t.new.dst c.args.rec t.result c.requires.dst_len c.requires.canonical w, c.requires.dst_len)
+    omega (arith, room_left c.args.dst.now t.new.dst c.args.rec.now t.result c.requires.dst_len c.requires.canonical w, c.requires.dst_len)
 
 pub shape_of-dst : goal.shape_of-dst
 shape_of-dst c =

@@ -16,7 +16,7 @@ returns-in-Ok c =
     let a = c.args in
     let t = table_of a.table.now in
     wrote_as (read_line t (read c.in-Ok.rec)) (text_line (well_formed t) a.s.now)
-    (read_as t c.empty.result a.s.now (Ok c.in-Ok.rec) c.empty.ensures c.in-Ok.ensures (read c.in-Ok.rec) refl)
+    (read_as t c.empty.result a.s.now (Ok c.in-Ok.rec) c.empty.ensures (rw c.in-Ok.is at c.read_text.ensures) (read c.in-Ok.rec) refl)
     c.send_record.ensures
 
 pub returns-in-Err : goal.returns-in-Err
@@ -24,5 +24,5 @@ returns-in-Err c =
     let a = c.args in
     let t = table_of a.table.now in
     wrote_as (refused_line 4) (text_line (well_formed t) a.s.now)
-    (read_not t c.empty.result a.s.now c.in-Err.field-0 c.empty.ensures c.in-Err.ensures)
+    (read_not t c.empty.result a.s.now c.in-Err.field-0 c.empty.ensures (rw c.in-Err.is at c.read_text.ensures))
     c.put_refusal.ensures

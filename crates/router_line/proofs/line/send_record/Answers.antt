@@ -24,8 +24,8 @@ pub returns-then-not-is_canonical : goal.returns-then-not-is_canonical
 returns-then-not-is_canonical c =
     let a = c.args in
     let t = table_of a.table.now in
-    wrote_as (refused_line 4) (read_line t (read a.rec))
-    (sent_not t a.rec (sym c.is_canonical.ensures ∙ c.if-not-is_canonical.true))
+    wrote_as (refused_line 4) (read_line t (read a.rec.now))
+    (sent_not t a.rec.now (sym c.is_canonical.ensures ∙ c.if-not-is_canonical.true))
     c.put_refusal.ensures
 
 pub write_address-requires : goal.write_address-requires
@@ -49,7 +49,7 @@ returns-in-Some c =
     let good = sym c.is_canonical.ensures ∙ c.if-not-is_canonical.false in
     let written = c.in-Some.ensures in
     let s = take c.in-Some.n c.write_address.new.dst in
-    wrote_as (done_line s) (read_line t (read a.rec)) (sent_done t a.rec s good (sym (c.of.ensures (view a.rec)) ∙ written.told))
+    wrote_as (done_line s) (read_line t (read a.rec.now)) (sent_done t a.rec.now s good (sym (c.of.ensures (view a.rec.now)) ∙ written.told))
     (done_over address_room written.wrote written.fits (omega (arith, c.requires)) c.put_done.ensures)
 
 pub returns-in-None : goal.returns-in-None
@@ -59,5 +59,5 @@ returns-in-None c =
     let t = table_of a.table.now in
     let good = sym c.is_canonical.ensures ∙ c.if-not-is_canonical.false in
     let none = c.in-None.ensures in
-    wrote_as (refused_line 5) (read_line t (read a.rec)) (sent_none t a.rec good (sym (c.of.ensures (view a.rec)) ∙ none.0))
+    wrote_as (refused_line 5) (read_line t (read a.rec.now)) (sent_none t a.rec.now good (sym (c.of.ensures (view a.rec.now)) ∙ none.0))
     (rw (ap (put_mid 2 address_room d) none.1 ∙ put_same 2 address_room d) at c.put_refusal-in-None.ensures)

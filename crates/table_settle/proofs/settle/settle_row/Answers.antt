@@ -9,7 +9,7 @@ use Rattle.oraddr.specs.Add.{told}
 use Rattle.table.specs.Rows.{fields_at, row_at}
 use Rattle.table_settle.specs.Settle.{left_parts, settled_as}
 use Rattle.table_settle.proofs.Laws.Nexts.{noted_count, noted_taken}
-use Rattle.table_settle.proofs.Laws.Settle.{settled-past, settled-row}
+use Rattle.table_settle.proofs.Laws.Settle.{settled-past, settled-refused, settled-row, told-done, told-refused}
 use Rattle.table_settle.proofs.settle.settle_row.Goals as goal
 
 pub overflow_sub-k : goal.overflow_sub-k
@@ -40,14 +40,15 @@ add_laid-path-requires c =
       nexts_value = noted_taken r.path (fields_at c.args.text.now r.path r.path_end) c.lay_levels-k.ensures p.levels;
     }
 
-pub add_parts-requires : goal.add_parts-requires
-add_parts-requires c =
+pub add_parts-done-requires : goal.add_parts-done-requires
+add_parts-done-requires c =
     let r = c.args.row in
     let counted = noted_count r.path (fields_at c.args.text.now r.path r.path_end) c.lay_levels-k.result c.lay_levels-k.ensures in
     record { start_in_bounds = omega arith; start_bound = omega (arith, c.count_left-n.ensures, counted, c.requires.row_inside.levels) }
 
+-- what the additions came to
 pub returns : goal.returns
-unfolding row_at
+unfolding row_at settled_as
 returns c =
     let a = c.args in
     let r = a.row in
@@ -57,6 +58,22 @@ returns c =
     let n = c.count_left-n.result in
     let path = c.add_laid-path in
     let counted = noted_count r.path fs k c.lay_levels-k.ensures in
-    c.settled_as.ensures
-    ∙ ap (settled_as (k + n)) c.add_parts.ensures
+    sym (ap (settled_as (k + n)) (told-done c.add_parts-done.result c.in_default.is))
+    ∙ ap (settled_as (k + n)) c.add_parts-done.ensures
+    ∙ settled-row fs gs k n (told path.result) counted c.count_left-n.ensures (omega (arith, counted, c.requires.row_inside.levels)) path.ensures
+
+pub returns-in-Refused : goal.returns-in-Refused
+unfolding row_at
+returns-in-Refused c =
+    let a = c.args in
+    let r = a.row in
+    let fs = fields_at a.text.now r.path r.path_end in
+    let gs = left_parts a.domain.now (length a.domain.now - (r.domain_end - r.domain)) in
+    let k = c.lay_levels-k.result in
+    let n = c.count_left-n.result in
+    let path = c.add_laid-path in
+    let done = c.add_parts-done.result in
+    let counted = noted_count r.path fs k c.lay_levels-k.ensures in
+    sym (settled-refused (k + n) (told done) (told-refused done c.in-Refused.is))
+    ∙ ap (settled_as (k + n)) c.add_parts-done.ensures
     ∙ settled-row fs gs k n (told path.result) counted c.count_left-n.ensures (omega (arith, counted, c.requires.row_inside.levels)) path.ensures
