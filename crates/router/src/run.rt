@@ -10,8 +10,8 @@ ghost use Rattle.router.specs.Run.{Opened, Routing, RoutingFrom, RoutingRest};
 
 use chars::parts::part_end;
 use router_line::line::{LONGEST_LINE, place_answer};
-use table::load::Malformed;
-use table_load::read::read_table;
+use table::load::{Malformed, TableRead};
+use table_load::load::load;
 use table_load::tables::Table;
 
 // How far a call came in its input, and how much it wrote. `over` says that the input goes on within a line that is over the limit and has
@@ -23,17 +23,14 @@ pub struct Routed {
     pub written: usize,
 }
 
-// Reads a table text for a run of lines. The rows go to the two lent lists.
-pub fn open<'a>(
-    text: &'a [u8],
-    to_path: &'a mut [usize],
-    to_domain: &'a mut [usize],
-) -> Result<Table<'a>, Malformed>
+// Loads a table text for a run of lines. The rows go to the two lent lists, and a `Table` is made of what was loaded when they are lent no
+// more: of lists that it holds on to, no contract could say what they hold afterwards.
+pub fn open(text: &[u8], to_path: &mut [usize], to_domain: &mut [usize]) -> TableRead
     requires to_path_len { length to_path.old ≡ rows_size }
     requires to_domain_len { length to_domain.old ≡ rows_size }
-    ensures { Opened text.now to_path.entry to_domain.entry result }
+    ensures { Opened text.now result to_path.new to_domain.new }
 {
-    read_table(text, to_path, to_domain)
+    load(text, to_path, to_domain)
 }
 
 // The rest of the input from `at` on, which has no LF and is a line all the same: it is over the limit, or nothing more comes.

@@ -26,11 +26,12 @@ use Rattle.ortext_write.proofs.Laws.Write.{text_bound}
 use Rattle.table.specs.Lines.{TableOutcome, malformed, well_formed}
 use Rattle.table.specs.Table.{Table}
 use Rattle.table_load.specs.Load.{FormedBy}
-use Rattle.mapping.specs.Answers.{address_bad_line, record_bad_line, record_number, told_address, told_record}
+use Rattle.mapping.specs.Answers.{address_bad_line, address_number, record_bad_line, record_number, told_address, told_record}
 use Rattle.mapping.specs.Results.{AddressResult, RecordResult, malformed_record, placed, refused_address}
 use Rattle.mapping.specs.ToAddress.{to_address, to_address_by}
 use Rattle.mapping.specs.ToRecord.{to_record_by}
 use Rattle.mapping.specs.declared.answers.AddressRefusal.{AddressRefusal}
+use Rattle.mapping.specs.declared.answers.AddressRefusal.TheVariants as address-refusal
 use Rattle.mapping.specs.declared.answers.RecordRefusal.{RecordRefusal}
 use Rattle.mapping.specs.declared.answers.RecordRefusal.TheVariants as record-refusal
 use Rattle.mapping.proofs.Laws.Returned.{done-canonical}
@@ -41,6 +42,21 @@ use Rattle.gateway_text.specs.Texts.{read_outcome, record_of_text}
 use Rattle.gateway_text.proofs.Laws.Texts.{outcome-done, outcome-not}
 use Rattle.gateway_export.specs.Exports.{Exported, ExportedCheck, Packable, PackableCheck, packed, reading_to_address, text_result, text_to_address_by}
 use Rattle.gateway_export.proofs.Laws.Bounds.{Counted, address_bound, placed-line, placed-size, record_line_bound}
+
+-- a refusal's number
+pub number_small : (e : AddressRefusal) → address_number e ≤ 7
+unfolding address_number
+number_small address-refusal.NotCanonical = omega arith
+number_small address-refusal.NoAddress = omega arith
+number_small address-refusal.ShortBuffer = omega arith
+number_small (address-refusal.Malformed l) = omega arith
+
+pub refused-small : (e : RecordRefusal) → record_number e ≤ 7
+unfolding record_number
+refused-small record-refusal.NoShape = omega arith
+refused-small record-refusal.TooLong = omega arith
+refused-small record-refusal.TooLongCoded = omega arith
+refused-small (record-refusal.Malformed l) = omega arith
 
 -- a result as it was told, in one value
 pub exported : (o : AddressResult) (w : Result ℕ AddressRefusal) (r : ℕ) (new : List ℕ) → told_address w new ≡ o → r ≡ packed (told_address w [])

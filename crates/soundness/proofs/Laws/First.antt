@@ -46,6 +46,11 @@ odd-label : (n : ℕ) → take 3 (odd_label n) ≡ label n
 unfolding label odd_label
 odd-label n = refl
 
+-- so these three are a label's
+pub label-length : (n : ℕ) (bytes : List ℕ) → bytes ≡ odd_label n → 3 ≡ length (take 3 bytes)
+unfolding label odd_label
+label-length n bytes b = ap (λ (s : List ℕ). length (take 3 s)) (sym b)
+
 -- with its `+` it is whole
 odd_whole : (n : ℕ) → take 4 (odd_label n) ≡ odd_label n
 unfolding label odd_label

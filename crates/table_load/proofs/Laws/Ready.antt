@@ -1,16 +1,17 @@
 -- A table that was read is in order and keeps its rules, whatever it was read from.
 -- Assumes nothing.
-use mathlib.Core.Path.{◌≡◌, refl, sym, subst}
+use mathlib.Core.Path.{◌≡◌, refl, sym, subst, ap}
 use mathlib.Core.List.{List}
 use Prim.Native.Nat.{ℕ}
 use Rattle.table.specs.Lines as lines
 use Rattle.table.specs.Lines.{loaded_from, malformed, well_formed}
-use Rattle.std.specs.Prelude.{Result, Ok, Err, IfOk}
+use denote.Ref.{Bor}
+use Rattle.std.specs.Prelude.{Result, Ok, Err}
 use Rattle.table.specs.declared.load.Loaded.{Loaded}
 use Rattle.table.specs.declared.load.Malformed.{Malformed}
 use Rattle.table.proofs.Laws.Formed.{loaded_formed}
 use Rattle.table_load.specs.Load.{FormedBy, Loading, Ready, load_answer}
-use Rattle.table_load.specs.Tables.{table_answer}
+use Rattle.table_load.specs.Tables.{Tabled, table_answer}
 use Rattle.table_load.specs.declared.tables as tables
 
 pub ready-formed : (s ds rs : List ℕ) (r : Result Loaded Malformed) → Ready s ds rs r → FormedBy (load_answer s ds rs r)
@@ -39,8 +40,11 @@ pub read_formed : (r : Result tables.Table.Table Malformed) → FormedBy (table_
 read_formed (Ok t) = t.formed
 read_formed (Err e) = tt
 
--- and, where it keeps a text, that it is in order and keeps its rules over this text
-pub read_ready : (s : List ℕ) (r : Result tables.Table.Table Malformed) → IfOk r (λ t. t.text.now ≡ s)
-    → IfOk r (λ t. Ready s t.to_path.now t.to_domain.now (Ok t.loaded))
-read_ready s (Ok t) e = subst (λ (x : List ℕ). Ready x t.to_path.now t.to_domain.now (Ok t.loaded)) e (t.kept, t.formed)
-read_ready s (Err m) e = e
+-- the table of what was loaded answers as this did
+pub tabled_answer : (s ds rs : Bor (List ℕ)) (l : Result Loaded Malformed) (r : Result tables.Table.Table Malformed) → Tabled s ds rs l r
+    → table_answer r ≡ load_answer s.now ds.now rs.now l
+unfolding load_answer
+tabled_answer s ds rs (Ok l) (Ok t) h = rw (h.text, h.to_path, h.to_domain, h.loaded) refl
+tabled_answer s ds rs (Err e) (Err f) h = ap (λ (m : Malformed). malformed m.line) h
+tabled_answer s ds rs (Ok l) (Err f) h = elim h [ ]
+tabled_answer s ds rs (Err e) (Ok t) h = elim h [ ]

@@ -4,7 +4,7 @@ use Rattle.std.proofs.Common.{◌+◌, ◌∙◌, arith, sym, get_or, drop}
 use mathlib.Core.Bool.{and-false}
 use borrow.Author.Tests.{lt-leb, ne_eqb}
 use Rattle.chars.specs.Class.{highest_code}
-use Rattle.chars.specs.Digits.{three_digits}
+use Rattle.chars.specs.Digits.{spelt_character, three_digits}
 use Rattle.chars.proofs.Laws.Digits.{character_none, character_some}
 use Rattle.chars.proofs.Laws.Seq.{front-there}
 use Rattle.mailaddr.specs.Answers.{from_group, letter_group}
@@ -58,7 +58,7 @@ returns-then-byte_at-ne41 c =
     }
 
 pub returns-in_err-char : goal.returns-in_err-char
-unfolding from_group
+unfolding from_group spelt_character
 returns-in_err-char c =
     let s = c.args.s.now in
     let i = c.args.at in
@@ -72,7 +72,7 @@ returns-in_err-char c =
     })
 
 pub returns : goal.returns
-unfolding from_group
+unfolding from_group spelt_character
 returns c =
     let s = c.args.s.now in
     let i = c.args.at in

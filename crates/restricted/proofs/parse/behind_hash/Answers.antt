@@ -8,7 +8,7 @@ use borrow.Author.Tests.{lt-leb, ne_eqb}
 use lib.ListN.{drop, get_or}
 use lib.Seq.{get_or-drop}
 use Rattle.chars.specs.Class.{highest_code}
-use Rattle.chars.specs.Digits.{three_digits}
+use Rattle.chars.specs.Digits.{spelt_character, three_digits}
 use Rattle.chars.proofs.Laws.Digits.{character_none, character_some}
 use Rattle.restricted.proofs.Laws.Parse.{group_number, group_short, parse-none}
 use Rattle.restricted.proofs.parse.behind_hash.Goals as goal
@@ -26,6 +26,7 @@ returns-then-byte_at-ne35 c =
     (rw (get_or-drop a.at s 3 0, ne_eqb (get_or s (a.at + 3) 0) 35 (λ q. c.if-byte_at-ne35.true (c.byte_at.ensures ∙ q))))
 
 pub returns-in_err-char : goal.returns-in_err-char
+unfolding spelt_character
 returns-in_err-char c =
     let s = drop c.args.at c.args.s.now in
     rw c.from_residual.ensures
@@ -33,6 +34,7 @@ returns-in_err-char c =
     (rw (lt-leb (three_digits s) highest_code (character_none s c.in_err-char.ensures), and-false)))
 
 pub returns : goal.returns
+unfolding spelt_character
 returns c =
     let a = c.args in
     let s = a.s.now in
